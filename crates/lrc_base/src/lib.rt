@@ -1,0 +1,32 @@
+//! The types of names, terms, expressions, grammars and edits, before and after checking.
+//!
+//! A [`List`] is seen by contracts as the list of its items, and a [`Boxed`] as the value that it
+//! holds, so that a term or an expression is plain data to a contract, without pointers in it.
+#![tactic(auto)]
+
+mod expr;
+mod grammar;
+mod job;
+mod name;
+mod raw;
+mod term;
+
+pub use expr::{Expr, Op};
+pub use grammar::{Attr, Equation, Extra, Kid, Kind, Piece, Production, Sort};
+pub use job::{Edit, Job, Path, RawEdit, RawScript, Script};
+pub use name::NameText;
+pub use raw::{
+    RawAttr, RawExpr, RawGrammar, RawItem, RawKid, RawKind, RawPiece, RawProd, RawSort, RawTerm,
+};
+pub use sqlite_items::{Boxed, Items};
+pub use std::alloc::AllocError;
+pub use term::Term;
+
+/// A growing list. Contracts see it as the list of its items.
+pub type List<T> = Items<T>;
+
+/// A list of bytes.
+pub type Bytes = Items<u8>;
+
+/// The error for want of memory.
+pub type Memory = AllocError;

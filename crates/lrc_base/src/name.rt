@@ -1,0 +1,63 @@
+ghost use Rattle.std.specs.Prelude.{◌≡◌, ℕ, ◌<◌, ◌≤◌, ◌↔◌, List, length, IsTrue, MatchOption};
+ghost use Rattle.lrc_base.specs.Name.{IsName};
+
+use std::marker::Model;
+
+/// The most bytes of a name.
+pub const NAME_LIMIT: usize = 64;
+
+/// A name: 1 to 64 bytes, none of them 0. Contracts see it as the list of its bytes.
+#[derive(Debug)]
+pub struct NameText {
+    padded: [u8; 64],
+    len: usize,
+}
+
+impl Model for NameText {
+    ghost use Rattle.std.specs.Prelude.{ℕ, List};
+
+    ghost Value = { List ℕ };
+
+    ghost use Rattle.lrc_base.specs.Name.{shown, stored, IsStored, stored-shown};
+
+    ghost view = { λ n. shown n };
+
+    ghost invariant = { λ n. IsStored n };
+
+    ghost inverse = { stored };
+
+    ghost inverse_ok = { stored-shown };
+}
+
+impl Clone for NameText {
+    fn clone(&self) -> Result<NameText, std::alloc::AllocError> {
+        Ok(*self)
+    }
+}
+
+impl Copy for NameText {}
+
+impl NameText {
+    /// The name of these bytes; None where there are 0 or more than 64 of them, or one of them is 0.
+    pub fn of(bytes: &[u8]) -> Option<NameText>
+        ensures { MatchOption result (IsName bytes.now → ⊥) (λ name. (name ≡ bytes.now) × IsName bytes.now) }
+    {
+        if bytes.is_empty() || bytes.len() > NAME_LIMIT || bytes.contains(&0) {
+            return None;
+        }
+        let mut padded = [0; NAME_LIMIT];
+        padded[..bytes.len()].copy_from_slice(bytes);
+        Some(NameText {
+            padded,
+            len: bytes.len(),
+        })
+    }
+
+    /// The bytes of the name.
+    pub fn bytes(&self) -> &[u8]
+        ensures value { result.now ≡ self.now }
+        ensures name { IsName self.now }
+    {
+        &self.padded[..self.len]
+    }
+}
