@@ -1,0 +1,9 @@
+//! The reader of jobs: from the bytes of a text to the job that the text denotes.
+#![tactic(auto)]
+
+mod cursor;
+mod fault;
+mod lexeme;
+
+pub use fault::JobFault;
+pub use lexeme::{Lexeme, Mark};
