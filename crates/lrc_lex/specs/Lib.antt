@@ -1,0 +1,4 @@
+pub mod Name
+pub mod Decimal
+pub mod Tokens
+pub mod Longest
