@@ -1,13 +1,14 @@
 -- What `next` says of the text: by its first character, and that a token is the longest one there.
-use Rattle.std.proofs.Common.{◌≡◌, ℕ, zero, suc, ◌+◌, ◌-◌, ◌<◌, ◌≤◌, ◌==◌, Bool, true, false, cond, ◌&&◌, ◌⊎◌, inl, inr, List, [], ◌∷◌, length, get_or, take, drop, Some, sym, ap, refl, ◌∙◌, subst, arith, length-take-le, nat_le}
-use Rattle.std.specs.Prelude.{slice_get}
+use Rattle.std.proofs.Common.{◌≡◌, ℕ, zero, suc, ◌+◌, ◌-◌, ◌<◌, ◌≤◌, ◌==◌, Bool, true, false, cond, ◌&&◌, ◌⊎◌, inl, inr, List, [], ◌∷◌, length, get_or, take, drop, sym, ap, refl, ◌∙◌, subst, arith, length-take-le, nat_le}
+use Rattle.std.specs.Prelude.{Contains}
+use Rattle.std.proofs.lemmas.List.Elements.{All-contains}
 use Rattle.std.specs.Char.{is_ascii_digit}
 use Rattle.std.specs.List.{prefix_len, take_while, AllPass}
 use Rattle.std.proofs.lemmas.Bool.{false≢true, and_parts, and_from, leb-true, eqb-true, eq-eqb}
 use Rattle.std.proofs.lemmas.List.Sums.{prefix_len-le-length}
 use Rattle.std.proofs.lemmas.List.Folds.{length-prefix_len}
 use Rattle.std.proofs.lemmas.Bool.Decides.{nat_tests}
-use Rattle.lrc_lex.specs.Name.{IsName}
+use Rattle.lrc_base.specs.Name.{IsName}
 use Rattle.lrc_lex.specs.declared.TokenClass.{TokenClass}
 use Rattle.lrc_lex.specs.declared.TokenClass.TheVariants.{Word, Natural, Negative, NameLit, Text, Path, Symbol}
 use Rattle.lrc_lex.specs.declared.scan.Step.{Step}
@@ -96,12 +97,8 @@ word_some : (c : ℕ) (rest : List ℕ) → starts_word c ≡ true → 1 ≤ pre
 word_some c rest word = rw (starts-continues c word) (omega arith)
 
 -- no byte of a word is 0
-no_zero_passes : (bytes : List ℕ) → AllPass continues_word bytes → (i : ℕ) → slice_get bytes i ≡ Some 0 → ⊥
-no_zero_passes [] passes i e = cc
-no_zero_passes (b ∷ bytes) passes zero e =
-    let is_zero : b ≡ 0 = cc in
-    false≢true (subst (λ d. continues_word d ≡ true) is_zero (passes 0 0 (omega arith)))
-no_zero_passes (b ∷ bytes) passes (suc i) e = no_zero_passes bytes (λ k d h. passes (suc k) d (omega arith)) i e
+no_zero_passes : (bytes : List ℕ) → AllPass continues_word bytes → ¬ Contains bytes 0
+no_zero_passes bytes passes zero_there = false≢true (All-contains (λ b. continues_word b ≡ true) bytes 0 passes zero_there)
 
 word_is_next : (c : ℕ) (rest : List ℕ) → starts_word c ≡ true → prefix_len continues_word (c ∷ rest) ≤ 64 → IsNext (c ∷ rest) Word (prefix_len continues_word (c ∷ rest))
 word_is_next c rest word short =

@@ -1,7 +1,7 @@
 -- The list of a text's tokens: there is at most one, each of its tokens is the longest at its place, and reading on completes it.
 use Rattle.std.proofs.Common.{◌≡◌, ℕ, ◌+◌, ◌-◌, ◌<◌, ◌≤◌, List, [], ◌∷◌, ◌++◌, length, take, drop, sym, ap, refl, ◌∙◌, subst, arith, length-drop, append_assoc, add-zero}
 use Rattle.std.specs.Prelude.{All, slice_range}
-use Rattle.std.proofs.lemmas.List.{append-nil, drop-drop}
+use Rattle.std.proofs.lemmas.List.{append-nil, drop-drop, take_rest}
 use Rattle.std.proofs.lemmas.List.Elements.{All-nil, All-cons}
 use Rattle.lrc_lex.specs.declared.TokenClass.{TokenClass}
 use Rattle.lrc_lex.specs.declared.Token.{Token}
@@ -10,6 +10,10 @@ use Rattle.lrc_lex.specs.declared.scan.Step.TheVariants.{End, Skip, Take, Refuse
 use Rattle.lrc_lex.specs.Tokens.{next, token_at, TokensFrom, ends, skips, takes, Tokens}
 use Rattle.lrc_lex.specs.Longest.{IsToken, IsTokenOf}
 use Rattle.lrc_lex.proofs.NextLemmas.{IsNext, Says, next_says}
+
+-- what the code reads at a place is what stands there
+pub step_at : (text : List ℕ) (at : ℕ) (step : Step) → step ≡ next (slice_range text at (length text)) → next (drop at text) ≡ step
+step_at text at step e = ap next (sym (take_rest text at)) ∙ sym e
 
 -- what stands at a place has one list of tokens
 pub one_list : {left : List ℕ} {at : ℕ} {a b : List Token} → TokensFrom left at a → TokensFrom left at b → a ≡ b
@@ -91,9 +95,19 @@ not_refused (skips e more) refuse = cc
 not_refused (takes e more) refuse = cc
 
 module _ (text : List ℕ) (found : List Token) (at : ℕ) (so_far : Reads text found at) where
-  -- a step lies within the text
+  -- a step has one byte or more, and lies within the text
   pub within_text : (n : ℕ) → n ≤ length (drop at text) → at + n ≤ length text
   within_text n h = omega (arith, length-drop at text, so_far.within)
+
+  pub skip_some : (n : ℕ) → next (drop at text) ≡ Skip n → (1 ≤ n) × (at + n ≤ length text)
+  skip_some n skip =
+      let step : Says (drop at text) (Skip n) = subst (Says (drop at text)) skip (next_says (drop at text)) in
+      (step.0, within_text n step.1)
+
+  pub take_some : (class : TokenClass) (n : ℕ) → next (drop at text) ≡ Take class n → (1 ≤ n) × (at + n ≤ length text)
+  take_some class n take_is =
+      let step : IsNext (drop at text) class n = subst (Says (drop at text)) take_is (next_says (drop at text)) in
+      (step.some, within_text n step.within)
 
   pub reads_skip : (n : ℕ) → next (drop at text) ≡ Skip n → Reads text found (at + n)
   reads_skip n skip =

@@ -1,4 +1,3 @@
-pub mod Name
 pub mod Decimal
 pub mod Tokens
 pub mod Longest

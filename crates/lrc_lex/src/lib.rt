@@ -1,15 +1,15 @@
 //! Cuts the text of a job into tokens.
 #![tactic(auto)]
 
-ghost use Rattle.std.specs.Prelude.{◌≡◌, ◌≤◌, List, length, IfOk, IsErrOf};
+ghost use Rattle.std.specs.Prelude.{◌≡◌, ℕ, ◌≤◌, List as Sequence, length, All, IfOk, IsErrOf};
 ghost use Rattle.lrc_lex.specs.Tokens.{Tokens};
+ghost use Rattle.lrc_lex.specs.Longest.{IsTokenOf};
 
 mod decimal;
 mod scan;
 
 use crate::scan::{Step, next};
-use sqlite_items::Items as List;
-use std::alloc::AllocError as Memory;
+use lrc_base::{List, Memory};
 use std::alloc::Global;
 
 pub use decimal::natural;
@@ -58,7 +58,8 @@ impl From<Memory> for LexFault {
 pub fn tokens(alloc: Global, text: &[u8]) -> Result<List<Token>, LexFault>
     requires { length text.now ≤ 16777216 }
     ensures ok { IfOk result (λ found. Tokens text.now found) }
-    ensures not_built { IsErrOf result LexFault.NotBuilt → (found : List Token) → Tokens text.now found → ⊥ }
+    ensures each { IfOk result (λ found. All (IsTokenOf text.now) found) }
+    ensures not_built { IsErrOf result LexFault.NotBuilt → (found : Sequence Token) → Tokens text.now found → ⊥ }
 {
     let mut found = List::new(alloc);
     let mut at = 0;
@@ -78,4 +79,12 @@ pub fn tokens(alloc: Global, text: &[u8]) -> Result<List<Token>, LexFault>
             Step::Refuse => return Err(LexFault::NotBuilt),
         }
     }
+}
+
+/// What holds of the tokens of any text: there is one list of them at most, and each is the
+/// longest token at its place, of the form of its class.
+pub fn token_laws()
+    ensures one_list { (text : Sequence ℕ) (found others : Sequence Token) → Tokens text found → Tokens text others → found ≡ others }
+    ensures each { (text : Sequence ℕ) (found : Sequence Token) → Tokens text found → All (IsTokenOf text) found }
+{
 }
