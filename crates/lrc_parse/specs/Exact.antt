@@ -51,7 +51,7 @@ shape_skip k s = record { first = k ∷ []; empty = false; more = s.more }
 
 -- the shape of `L` before a token of the kind
 abbrev pub shape_ends : Shape → ℕ → Shape
-shape_ends s k = record { first = cond s.empty (s.first ++ k ∷ []) s.first; empty = false; more = [] }
+shape_ends s k = shape_then s (shape_one (k ∷ []))
 
 -- the shape of any number of items
 abbrev pub shape_many : Shape → Shape
