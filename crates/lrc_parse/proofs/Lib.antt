@@ -4,4 +4,5 @@ pub mod Back
 pub mod Parts
 pub mod Loops
 pub mod Lists
+pub mod ListSteps
 pub mod Whole

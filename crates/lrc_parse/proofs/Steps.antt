@@ -175,3 +175,6 @@ module _ {T : Type 0} (kind : T → ℕ) where
       read_nested kind body first (suc depth) u ≡ body (read_nested kind body first depth) u
   unfolding read_nested
   read_nested_more body first depth u = refl
+
+-- the steps of all readings but those of lists
+pub ruleset steps = (read_empty_took, read_one_took, read_one_stops, read_one_end, read_of_took, read_of_stops, read_given_took, read_given_stops, read_then_took, read_then_first, read_then_second, read_fixed_took, read_fixed_stops, read_fixed_end, read_skip_took, read_skip_stops, read_skip_end, read_ends_took, read_ends_first, read_ends_stops, read_ends_end, read_either_first, read_either_second, read_optional_some, read_optional_stops, read_optional_none, read_nothing_first, read_nothing_other, read_within_room, read_within_passed, read_within_other, read_nested_last, read_nested_more)

@@ -43,6 +43,10 @@ module _ {T : Type 0} where
   unfoldable pub read_given : {A B : Type 0} → (List T → Reading T A) → (A → List T → Reading T B) → List T → Reading T B
   read_given a b u = on_took (a u) b
 
+  -- one item more behind `xs`
+  unfoldable pub read_push : {A : Type 0} → (List T → Reading T A) → List A → List T → Reading T (List A)
+  read_push item xs u = read_of (λ x. xs ++ x ∷ []) item u
+
 module _ {T : Type 0} (kind : T → ℕ) where
   -- a token of the kind, and then what `next` reads
   abbrev pub past_token : {A : Type 0} → ℕ → (List T → Reading T A) → List T → Reading T A
@@ -83,10 +87,6 @@ module _ {T : Type 0} (kind : T → ℕ) where
   -- turns while the next token is in `first`
   unfoldable pub read_loop : {S : Type 0} → List ℕ → (S → List T → Reading T S) → S → List T → Reading T S
   read_loop first step s u = read_turns first step (length u) s u
-
-  -- one item more behind `xs`
-  unfoldable pub read_push : {A : Type 0} → (List T → Reading T A) → List A → List T → Reading T (List A)
-  read_push item xs u = read_of (λ x. xs ++ x ∷ []) item u
 
   -- any number of items, behind `xs`
   unfoldable pub read_many : {A : Type 0} → List ℕ → (List T → Reading T A) → List A → List T → Reading T (List A)
