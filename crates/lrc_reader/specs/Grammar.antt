@@ -1,5 +1,5 @@
 -- The grammar of a job: which lexemes stand for which job.
-use Rattle.std.specs.Prelude.{ℕ, ℤ, ◌+◌, ◌==◌, nat_le, pos, true, false, if◌then◌else◌, Option, Some, None, List, [], ◌∷◌}
+use Rattle.std.specs.Prelude.{ℕ, zero, suc, ℤ, ◌+◌, ◌==◌, nat_le, pos, true, false, if◌then◌else◌, Option, Some, None, List, [], ◌∷◌}
 use Rattle.std.specs.Ordering.{int_eq}
 use Rattle.lrc_base.specs.declared.expr.Op.TheVariants as op
 use Rattle.lrc_base.specs.declared.raw.RawKind.{RawKind}
@@ -17,7 +17,7 @@ use Rattle.lrc_base.specs.declared.raw.RawTerm.TheVariants as t
 use Rattle.lrc_base.specs.declared.raw.RawGrammar.{RawGrammar}
 use Rattle.lrc_base.specs.declared.job.RawScript.{RawScript}
 use Rattle.lrc_base.specs.declared.job.Job.{Job}
-use Rattle.lrc_parse.specs.Language.{Lang, Empty, One, Of, Then, Given, Either, Optional, Within, Many, Most, Loop, Nested, Fixed, Skip, Ends, Separated}
+use Rattle.lrc_parse.specs.Language.{Lang, Nothing, Empty, One, Of, Then, Given, Either, Optional, Within, Many, Most, Loop, Fixed, Skip, Ends, Separated}
 use Rattle.lrc_reader.specs.declared.lexeme.Lexeme.{Lexeme}
 use Rattle.lrc_reader.specs.declared.lexeme.Lexeme.TheVariants as l
 use Rattle.lrc_reader.specs.declared.lexeme.Mark.{Mark}
@@ -141,8 +141,10 @@ IsArguments L = After m.LeftParen (Before (Listed (Separated kind (number m.Comm
 abbrev pub IsTermOver : Lang Lexeme RawTerm → Lang Lexeme RawTerm
 IsTermOver L = Either (Of t.Int IsNumber) (Of node_of (Then IsWord (IsArguments L)))
 
-abbrev pub IsTerm : Lang Lexeme RawTerm
-IsTerm = Nested IsTermOver 999
+-- a term, with at most so many within one another, itself included
+unfoldable pub IsTerm : ℕ → Lang Lexeme RawTerm
+IsTerm zero = Nothing
+IsTerm (suc levels) = IsTermOver (IsTerm levels)
 
 -- ---- the header, the grammar and its session
 
@@ -160,7 +162,7 @@ abbrev pub script_of : RawTerm → RawScript
 script_of tree = record { tree = tree; edits = [] }
 
 abbrev pub IsSession : Lang Lexeme RawScript
-IsSession = Of script_of (After m.Session (After m.On (Before (Before IsTerm m.LeftBrace) m.RightBrace)))
+IsSession = Of script_of (After m.Session (After m.On (Before (Before (IsTerm 1000) m.LeftBrace) m.RightBrace)))
 
 abbrev pub job_of : Unit {0} × (RawGrammar × RawScript) → Job
 job_of p = record { grammar = p.1.0; sessions = p.1.1 ∷ [] }

@@ -1,10 +1,17 @@
 //! A cursor over the tokens of a text, seen as the lexemes that are left.
 
-ghost use Rattle.std.specs.Prelude.{◌≡◌, ◌≤◌, length, drop, slice_get, All};
+ghost use Rattle.std.specs.Prelude.{◌≡◌, ◌≤◌, [], ◌∷◌, length, drop, slice_get, All};
 ghost use Rattle.lrc_lex.specs.Longest.{IsTokenOf};
+ghost use Rattle.lrc_parse.specs.Kinds.{starts};
+ghost use Rattle.lrc_parse.specs.Reading.{read_fixed};
 ghost use Rattle.lrc_reader.specs.Lexeme as spec;
+ghost use Rattle.lrc_reader.specs.Lexeme.{kind, number};
+ghost use Rattle.lrc_reader.specs.Reading as reading;
+ghost use Rattle.lrc_reader.specs.Gives.{Gives};
 
-use crate::lexeme::{Lexeme, lexeme_of};
+use crate::fault::JobFault;
+use crate::lexeme::{Lexeme, Mark, kind_of, lexeme_of, number_of};
+use lrc_base::NameText;
 use lrc_lex::Token;
 use std::marker::Model;
 
@@ -52,5 +59,58 @@ impl<'a> Cursor<'a> {
         if let [_, rest @ ..] = self.tokens {
             self.tokens = rest;
         }
+    }
+
+    /// Whether the next lexeme is this mark.
+    #[tactic(auto, using(crate::proofs::Next::starts_next, crate::proofs::Next::starts_end, crate::proofs::Next::has_only))]
+    pub fn sees(&self, mark: Mark) -> bool
+        ensures { result ≡ starts kind (number mark ∷ []) self.now }
+    {
+        match self.peek() {
+            Some(lexeme) => number_of(mark) == kind_of(lexeme),
+            None => false,
+        }
+    }
+
+    /// Goes past this mark.
+    #[tactic(auto, using(crate::proofs::Next::fixed_took, crate::proofs::Next::fixed_stops))]
+    pub fn expect(&mut self, mark: Mark) -> Result<(), JobFault>
+        ensures { Gives result self.new (read_fixed kind (number mark) self.old) }
+    {
+        if !self.sees(mark) {
+            return Err(JobFault::NotBuilt);
+        }
+        self.advance();
+        Ok(())
+    }
+
+    /// Goes past a word, and answers its name.
+    #[tactic(auto, unfolding(crate::specs::Reading::read_word), using(crate::proofs::Next::one_took, crate::proofs::Next::one_end, crate::proofs::Next::one_other))]
+    pub fn word(&mut self) -> Result<NameText, JobFault>
+        ensures { Gives result self.new (reading.read_word self.old) }
+    {
+        let Some(lexeme) = self.peek() else {
+            return Err(JobFault::NotBuilt);
+        };
+        let Some(name) = lexeme.name() else {
+            return Err(JobFault::NotBuilt);
+        };
+        self.advance();
+        Ok(name)
+    }
+
+    /// Goes past a natural, and answers its value.
+    #[tactic(auto, unfolding(crate::specs::Reading::read_number), using(crate::proofs::Next::one_took, crate::proofs::Next::one_end, crate::proofs::Next::one_other))]
+    pub fn natural(&mut self) -> Result<i64, JobFault>
+        ensures { Gives result self.new (reading.read_number self.old) }
+    {
+        let Some(lexeme) = self.peek() else {
+            return Err(JobFault::NotBuilt);
+        };
+        let Some(value) = lexeme.value() else {
+            return Err(JobFault::NotBuilt);
+        };
+        self.advance();
+        Ok(value)
     }
 }

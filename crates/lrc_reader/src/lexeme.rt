@@ -157,3 +157,44 @@ pub fn lexeme_of(text: &[u8], token: Token) -> Lexeme
         }
     }
 }
+
+/// The number of a mark, from 3 on.
+pub fn number_of(mark: Mark) -> u8
+    ensures { result ≡ spec.number mark }
+{
+    mark as u8 + 3
+}
+
+/// What a grammar tells lexemes by.
+pub fn kind_of(lexeme: Lexeme) -> u8
+    ensures { result ≡ spec.kind lexeme }
+{
+    match lexeme {
+        Lexeme::Word(_) => 0,
+        Lexeme::Natural(_) => 1,
+        Lexeme::Other => 2,
+        Lexeme::Mark(mark) => number_of(mark),
+    }
+}
+
+impl Lexeme {
+    /// The name that a word is.
+    pub fn name(&self) -> Option<NameText>
+        ensures { result ≡ spec.word_of self.now }
+    {
+        match self {
+            Lexeme::Word(name) => Some(*name),
+            _ => None,
+        }
+    }
+
+    /// The value of a natural.
+    pub fn value(&self) -> Option<i64>
+        ensures { result ≡ spec.natural_of self.now }
+    {
+        match self {
+            Lexeme::Natural(value) => Some(*value),
+            _ => None,
+        }
+    }
+}

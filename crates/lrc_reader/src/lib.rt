@@ -2,6 +2,7 @@
 #![tactic(auto)]
 
 mod cursor;
+mod declare;
 mod fault;
 mod lexeme;
 
