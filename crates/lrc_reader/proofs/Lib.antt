@@ -1,1 +1,4 @@
 pub mod Next
+pub mod Turns
+pub mod Exactly
+pub mod Shorter

@@ -10,6 +10,10 @@ abbrev pub Stops : {A : Type 0} → Reading Lexeme A → Type 0
 Stops (took x rest) = ⊥
 Stops (stops cause rest) = Unit {0}
 
+-- what was answered, seen by view, with the lexemes that are left
+abbrev pub GivesAs : {A B : Type 0} → (A → B) → Result A JobFault → List Lexeme → Reading Lexeme B → Type 0
+GivesAs view (Ok x) rest read = read ≡ took (view x) rest
+GivesAs view (Err fault) rest read = fault ≢ Memory → Stops read
+
 abbrev pub Gives : {A : Type 0} → Result A JobFault → List Lexeme → Reading Lexeme A → Type 0
-Gives (Ok x) rest read = read ≡ took x rest
-Gives (Err fault) rest read = fault ≢ Memory → Stops read
+Gives = GivesAs (λ x. x)

@@ -17,12 +17,25 @@ use Rattle.lrc_base.specs.declared.raw.RawTerm.TheVariants as t
 use Rattle.lrc_base.specs.declared.raw.RawGrammar.{RawGrammar}
 use Rattle.lrc_base.specs.declared.job.RawScript.{RawScript}
 use Rattle.lrc_base.specs.declared.job.Job.{Job}
-use Rattle.lrc_parse.specs.Language.{Lang, Nothing, Empty, One, Of, Then, Given, Either, Optional, Within, Many, Most, Loop, Fixed, Skip, Ends, Separated}
+use Rattle.lrc_parse.specs.Language.{Lang, Nothing, Empty, One, Given, Either, Optional, Within, Many, Most, Loop, Fixed, Separated}
 use Rattle.lrc_reader.specs.declared.lexeme.Lexeme.{Lexeme}
 use Rattle.lrc_reader.specs.declared.lexeme.Lexeme.TheVariants as l
 use Rattle.lrc_reader.specs.declared.lexeme.Mark.{Mark}
 use Rattle.lrc_reader.specs.declared.lexeme.Mark.TheVariants as m
 use Rattle.lrc_reader.specs.Lexeme.{kind, number, word_of, natural_of}
+
+-- ---- one part after another, with its value
+
+infixl 10 ◌>>=◌
+abbrev pub ◌>>=◌ : {A B : Type 0} → Lang Lexeme A → (A → Lang Lexeme B) → Lang Lexeme B
+L >>= M = Given L M
+
+infixl 10 ◌>>◌
+abbrev pub ◌>>◌ : {A B : Type 0} → Lang Lexeme A → Lang Lexeme B → Lang Lexeme B
+L >> M = Given L (λ _. M)
+
+abbrev pub pure : {A : Type 0} → A → Lang Lexeme A
+pure x = Empty x
 
 -- ---- lexemes
 
@@ -35,60 +48,85 @@ IsWord = One word_of
 abbrev pub IsNumber : Lang Lexeme ℤ
 IsNumber = One natural_of
 
--- a mark, and then L
-abbrev pub After : {A : Type 0} → Mark → Lang Lexeme A → Lang Lexeme A
-After mark L = Skip kind (number mark) L
-
--- L, and then a mark
-abbrev pub Before : {A : Type 0} → Lang Lexeme A → Mark → Lang Lexeme A
-Before L mark = Ends kind L (number mark)
-
--- nothing, or one item or more with commas between
-abbrev pub Listed : {A : Type 0} → Lang Lexeme (List A) → Lang Lexeme (List A)
-Listed L = Either L (Empty [])
+abbrev pub mark : Mark → Lang Lexeme (Unit {0})
+mark m = Fixed kind (number m)
 
 -- ---- "sort" Word "{" "syn" attr { "syn" attr } "}", with at most 16 attributes
 
--- Word ":" "Int" ";"
 abbrev pub attr_of : Name → RawAttr
 attr_of name = record { name = name; inherited = false; kind = k.Int }
 
+-- Word ":" "Int" ";"
 abbrev pub IsAttr : Lang Lexeme RawAttr
-IsAttr = Of attr_of (Before (Before (Before IsWord m.Colon) m.Int) m.Semicolon)
+IsAttr = do
+  name ← IsWord
+  mark m.Colon
+  mark m.Int
+  mark m.Semicolon
+  pure (attr_of name)
 
-abbrev pub sort_of : Name × List RawAttr → RawSort
-sort_of p = record { name = p.0; attrs = p.1 }
+abbrev pub sort_of : Name → List RawAttr → RawSort
+sort_of name attrs = record { name = name; attrs = attrs }
 
 abbrev pub IsSort : Lang Lexeme RawSort
-IsSort = Of sort_of (After m.Sort (Then IsWord (After m.LeftBrace (After m.Syn (Before (Most 16 (Separated kind (number m.Syn) IsAttr)) m.RightBrace)))))
+IsSort = do
+  mark m.Sort
+  name ← IsWord
+  mark m.LeftBrace
+  mark m.Syn
+  attrs ← Most 16 (Separated kind (number m.Syn) IsAttr)
+  mark m.RightBrace
+  pure (sort_of name attrs)
 
 -- ---- "prod" Word ":" Word "(" [ kid { "," kid } ] ")" "{" { Word "=" sum ";" } "}", with at most 8 children
 
-abbrev pub int_kind : Unit {0} → RawKind
-int_kind _ = k.Int
+-- "Int"
+abbrev pub IsIntKind : Lang Lexeme RawKind
+IsIntKind = mark m.Int >> pure k.Int
 
-abbrev pub IsKind : Lang Lexeme RawKind
-IsKind = Either (Of int_kind (Fixed kind (number m.Int))) (Of k.Named IsWord)
+-- Word
+abbrev pub IsNamedKind : Lang Lexeme RawKind
+IsNamedKind = do
+  name ← IsWord
+  pure (k.Named name)
 
-abbrev pub kid_of : Name × RawKind → RawKid
-kid_of p = record { name = p.0; kind = p.1 }
+abbrev pub kid_of : Name → RawKind → RawKid
+kid_of name what = record { name = name; kind = what }
 
+-- Word ":" ( "Int" | Word )
 abbrev pub IsKid : Lang Lexeme RawKid
-IsKid = Of kid_of (Then IsWord (After m.Colon IsKind))
+IsKid = do
+  name ← IsWord
+  mark m.Colon
+  what ← Either IsIntKind IsNamedKind
+  pure (kid_of name what)
 
 abbrev pub IsKids : Lang Lexeme (List RawKid)
-IsKids = After m.LeftParen (Before (Listed (Most 8 (Separated kind (number m.Comma) IsKid))) m.RightParen)
+IsKids = do
+  mark m.LeftParen
+  kids ← Either (Most 8 (Separated kind (number m.Comma) IsKid)) (pure [])
+  mark m.RightParen
+  pure kids
 
--- Word [ "." Word ]
 abbrev pub reference : Name → Option Name → RawExpr
 reference name None = e.One name
 reference name (Some attribute) = e.Two name attribute
 
-abbrev pub reference_of : Name × Option Name → RawExpr
-reference_of p = reference p.0 p.1
+-- Word [ "." Word ]
+abbrev pub IsReference : Lang Lexeme RawExpr
+IsReference = do
+  name ← IsWord
+  attribute ← Optional (mark m.Dot >> IsWord)
+  pure (reference name attribute)
+
+-- Natural
+abbrev pub IsLiteral : Lang Lexeme RawExpr
+IsLiteral = do
+  value ← IsNumber
+  pure (e.Int value)
 
 abbrev pub IsAtom : Lang Lexeme RawExpr
-IsAtom = Either (Of e.Int IsNumber) (Of reference_of (Then IsWord (Optional (After m.Dot IsWord))))
+IsAtom = Either IsLiteral IsReference
 
 -- a sum with the number of its nodes
 abbrev pub Counted : Type 0
@@ -105,46 +143,71 @@ sum_and s x = (e.Op op.Add s.0 x, s.1 + 2)
 
 -- "+" atom, where the two nodes more are within the limit
 abbrev pub IsAddend : Counted → Lang Lexeme Counted
-IsAddend s = After m.Plus (Within (nat_le (s.1 + 2) node_limit) (Of (sum_and s) IsAtom))
+IsAddend s = do
+  mark m.Plus
+  Within (nat_le (s.1 + 2) node_limit) (do
+    x ← IsAtom
+    pure (sum_and s x))
 
 abbrev pub sum_of : Counted → RawExpr
 sum_of s = s.0
 
 -- an atom, and addends, which join from the left
 abbrev pub IsSum : Lang Lexeme RawExpr
-IsSum = Of sum_of (Given (Of atom_alone IsAtom) (Loop IsAddend))
+IsSum = do
+  first ← IsAtom
+  s ← Loop IsAddend (atom_alone first)
+  pure (sum_of s)
 
-abbrev pub equation_of : Name × RawExpr → RawItem
-equation_of p = i.Own p.0 p.1
-
+-- Word "=" sum ";"
 abbrev pub IsEquation : Lang Lexeme RawItem
-IsEquation = Of equation_of (Then IsWord (After m.Equals (Before IsSum m.Semicolon)))
+IsEquation = do
+  name ← IsWord
+  mark m.Equals
+  sum ← IsSum
+  mark m.Semicolon
+  pure (i.Own name sum)
 
 abbrev pub IsItems : Lang Lexeme (List RawItem)
-IsItems = After m.LeftBrace (Before (Many IsEquation) m.RightBrace)
+IsItems = do
+  mark m.LeftBrace
+  items ← Many IsEquation
+  mark m.RightBrace
+  pure items
 
-abbrev pub prod_of : Name × (Name × (List RawKid × List RawItem)) → RawProd
-prod_of p = record { name = p.0; left = p.1.0; kids = p.1.1.0; items = p.1.1.1 }
+abbrev pub prod_of : Name → Name → List RawKid → List RawItem → RawProd
+prod_of name left kids items = record { name = name; left = left; kids = kids; items = items }
 
 abbrev pub IsProd : Lang Lexeme RawProd
-IsProd = Of prod_of (After m.Prod (Then IsWord (After m.Colon (Then IsWord (Then IsKids IsItems)))))
+IsProd = do
+  mark m.Prod
+  name ← IsWord
+  mark m.Colon
+  left ← IsWord
+  kids ← IsKids
+  items ← IsItems
+  pure (prod_of name left kids items)
 
 -- ---- Natural | Word "(" [ term { "," term } ] ")", with at most 1,000 terms within one another
 
-abbrev pub node_of : Name × List RawTerm → RawTerm
-node_of p = t.Node p.0 p.1
+abbrev pub IsLeaf : Lang Lexeme RawTerm
+IsLeaf = do
+  value ← IsNumber
+  pure (t.Int value)
 
-abbrev pub IsArguments : Lang Lexeme RawTerm → Lang Lexeme (List RawTerm)
-IsArguments L = After m.LeftParen (Before (Listed (Separated kind (number m.Comma) L)) m.RightParen)
-
--- a term whose arguments are of L
-abbrev pub IsTermOver : Lang Lexeme RawTerm → Lang Lexeme RawTerm
-IsTermOver L = Either (Of t.Int IsNumber) (Of node_of (Then IsWord (IsArguments L)))
+-- a node whose children are of L
+abbrev pub IsNode : Lang Lexeme RawTerm → Lang Lexeme RawTerm
+IsNode L = do
+  name ← IsWord
+  mark m.LeftParen
+  kids ← Either (Separated kind (number m.Comma) L) (pure [])
+  mark m.RightParen
+  pure (t.Node name kids)
 
 -- a term, with at most so many within one another, itself included
 unfoldable pub IsTerm : ℕ → Lang Lexeme RawTerm
 IsTerm zero = Nothing
-IsTerm (suc levels) = IsTermOver (IsTerm levels)
+IsTerm (suc levels) = Either IsLeaf (IsNode (IsTerm levels))
 
 -- ---- the header, the grammar and its session
 
@@ -152,21 +215,46 @@ abbrev pub one_of : Lexeme → Option (Unit {0})
 one_of (l.Natural value) = if int_eq value (pos 1) then Some tt else None
 one_of _ = None
 
-abbrev pub grammar_of : RawSort × (List RawProd × Name) → RawGrammar
-grammar_of p = record { sorts = p.0 ∷ []; prods = p.1.0; start = p.1.1 }
+-- "start" Word ";"
+abbrev pub IsStart : Lang Lexeme Name
+IsStart = do
+  mark m.Start
+  name ← IsWord
+  mark m.Semicolon
+  pure name
 
+abbrev pub grammar_of : RawSort → List RawProd → Name → RawGrammar
+grammar_of sort prods start = record { sorts = sort ∷ []; prods = prods; start = start }
+
+-- a sort, at most 256 productions and the start
 abbrev pub IsGrammar : Lang Lexeme RawGrammar
-IsGrammar = Of grammar_of (Then IsSort (Then (Most 256 (Many IsProd)) (After m.Start (Before IsWord m.Semicolon))))
+IsGrammar = do
+  sort ← IsSort
+  prods ← Most 256 (Many IsProd)
+  start ← IsStart
+  pure (grammar_of sort prods start)
 
 abbrev pub script_of : RawTerm → RawScript
 script_of tree = record { tree = tree; edits = [] }
 
+-- "session" "on" term "{" "}"
 abbrev pub IsSession : Lang Lexeme RawScript
-IsSession = Of script_of (After m.Session (After m.On (Before (Before (IsTerm 1000) m.LeftBrace) m.RightBrace)))
+IsSession = do
+  mark m.Session
+  mark m.On
+  tree ← IsTerm 1000
+  mark m.LeftBrace
+  mark m.RightBrace
+  pure (script_of tree)
 
-abbrev pub job_of : Unit {0} × (RawGrammar × RawScript) → Job
-job_of p = record { grammar = p.1.0; sessions = p.1.1 ∷ [] }
+abbrev pub job_of : RawGrammar → RawScript → Job
+job_of grammar script = record { grammar = grammar; sessions = script ∷ [] }
 
 -- "lrc" 1, the grammar and one session
 abbrev pub IsJob : Lang Lexeme Job
-IsJob = Of job_of (After m.Lrc (Then (One one_of) (Then IsGrammar IsSession)))
+IsJob = do
+  mark m.Lrc
+  One one_of
+  grammar ← IsGrammar
+  script ← IsSession
+  pure (job_of grammar script)

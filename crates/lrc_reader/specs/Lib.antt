@@ -2,3 +2,4 @@ pub mod Lexeme
 pub mod Grammar
 pub mod Reading
 pub mod Gives
+pub mod Denotes

@@ -1,5 +1,5 @@
 -- What each part of the grammar reads at the head of some lexemes.
-use Rattle.std.specs.Prelude.{ℕ, ℤ, zero, suc, ◌+◌, nat_le, Option, List, [], ◌∷◌}
+use Rattle.std.specs.Prelude.{ℕ, ℤ, zero, suc, ◌+◌, nat_lt, nat_le, Option, List, [], ◌∷◌, ◌++◌, length}
 use Rattle.lrc_base.specs.declared.raw.RawKind.{RawKind}
 use Rattle.lrc_base.specs.declared.raw.RawKind.TheVariants as k
 use Rattle.lrc_base.specs.declared.raw.RawAttr.{RawAttr}
@@ -8,6 +8,7 @@ use Rattle.lrc_base.specs.declared.raw.RawKid.{RawKid}
 use Rattle.lrc_base.specs.declared.raw.RawExpr.{RawExpr}
 use Rattle.lrc_base.specs.declared.raw.RawExpr.TheVariants as e
 use Rattle.lrc_base.specs.declared.raw.RawItem.{RawItem}
+use Rattle.lrc_base.specs.declared.raw.RawItem.TheVariants as i
 use Rattle.lrc_base.specs.declared.raw.RawProd.{RawProd}
 use Rattle.lrc_base.specs.declared.raw.RawTerm.{RawTerm}
 use Rattle.lrc_base.specs.declared.raw.RawTerm.TheVariants as t
@@ -19,7 +20,7 @@ use Rattle.lrc_reader.specs.declared.lexeme.Lexeme.{Lexeme}
 use Rattle.lrc_reader.specs.declared.lexeme.Mark.{Mark}
 use Rattle.lrc_reader.specs.declared.lexeme.Mark.TheVariants as m
 use Rattle.lrc_reader.specs.Lexeme.{kind, number, word_kind, natural_kind, word_of, natural_of}
-use Rattle.lrc_reader.specs.Grammar.{Name, attr_of, sort_of, kid_of, reference, Counted, node_limit, atom_alone, sum_and, sum_of, equation_of, prod_of, node_of, one_of, grammar_of, script_of, job_of}
+use Rattle.lrc_reader.specs.Grammar.{Name, attr_of, sort_of, kid_of, reference, Counted, node_limit, atom_alone, sum_and, sum_of, prod_of, one_of, grammar_of, script_of, job_of}
 
 abbrev pub Reader : Type 0 → Type 0
 Reader A = List Lexeme → Reading Lexeme A
@@ -80,12 +81,23 @@ read_attr = do
   pass m.Semicolon
   pure (attr_of name)
 
--- attributes behind these, each behind its mark
+-- one attribute more behind these
+unfoldable pub read_push_attr : List RawAttr → Reader (List RawAttr)
+read_push_attr xs = do
+  x ← read_attr
+  pure (xs ++ x ∷ [])
+
+-- the same behind its mark, within the limit
+unfoldable pub read_another_attr : List RawAttr → Reader (List RawAttr)
+read_another_attr xs = do
+  pass m.Syn
+  read_within kind (nat_lt (length xs) 16) words attributes_limit (read_push_attr xs)
+
 unfoldable pub read_more_attrs : List RawAttr → Reader (List RawAttr)
 read_more_attrs = read_others_most kind (number m.Syn) 16 words attributes_limit read_attr
 
 unfoldable pub read_attrs : Reader (List RawAttr)
-read_attrs = read_separated_most kind (number m.Syn) 16 words attributes_limit read_attr
+read_attrs = read_push_attr [] >>= read_more_attrs
 
 unfoldable pub read_sort : Reader RawSort
 read_sort = do
@@ -95,7 +107,7 @@ read_sort = do
   pass m.Syn
   attrs ← read_attrs
   pass m.RightBrace
-  pure (sort_of (name, attrs))
+  pure (sort_of name attrs)
 
 -- ---- productions
 
@@ -115,14 +127,25 @@ read_kid = do
   name ← read_word
   pass m.Colon
   what ← read_kind
-  pure (kid_of (name, what))
+  pure (kid_of name what)
 
--- children behind these, each behind a comma
+-- one child more behind these
+unfoldable pub read_push_kid : List RawKid → Reader (List RawKid)
+read_push_kid xs = do
+  x ← read_kid
+  pure (xs ++ x ∷ [])
+
+-- the same behind a comma, within the limit
+unfoldable pub read_another_kid : List RawKid → Reader (List RawKid)
+read_another_kid xs = do
+  pass m.Comma
+  read_within kind (nat_lt (length xs) 8) words children_limit (read_push_kid xs)
+
 unfoldable pub read_more_kids : List RawKid → Reader (List RawKid)
 read_more_kids = read_others_most kind (number m.Comma) 8 words children_limit read_kid
 
 unfoldable pub read_some_kids : Reader (List RawKid)
-read_some_kids = read_separated_most kind (number m.Comma) 8 words children_limit read_kid
+read_some_kids = read_push_kid [] >>= read_more_kids
 
 unfoldable pub read_any_kids : Reader (List RawKid)
 read_any_kids = read_either kind words read_some_kids (pure [])
@@ -179,7 +202,13 @@ read_equation = do
   pass m.Equals
   sum ← read_sum
   pass m.Semicolon
-  pure (equation_of (name, sum))
+  pure (i.Own name sum)
+
+-- one equation more behind these
+unfoldable pub read_push_equation : List RawItem → Reader (List RawItem)
+read_push_equation xs = do
+  x ← read_equation
+  pure (xs ++ x ∷ [])
 
 -- equations behind these
 unfoldable pub read_equations : List RawItem → Reader (List RawItem)
@@ -200,7 +229,13 @@ read_prod = do
   left ← read_word
   kids ← read_kids
   items ← read_items
-  pure (prod_of (name, (left, (kids, items))))
+  pure (prod_of name left kids items)
+
+-- one production more behind these, within the limit
+unfoldable pub read_another_prod : List RawProd → Reader (List RawProd)
+read_another_prod xs = read_within kind (nat_lt (length xs) 256) (only m.Prod) productions_limit (do
+  x ← read_prod
+  pure (xs ++ x ∷ []))
 
 -- productions behind these
 unfoldable pub read_prods : List RawProd → Reader (List RawProd)
@@ -214,12 +249,21 @@ read_leaf = do
   pure (t.Int value)
 
 module _ (inner : Reader RawTerm) where
-  -- terms behind these, each behind a comma
+  -- one term more behind these
+  unfoldable pub read_push_term : List RawTerm → Reader (List RawTerm)
+  read_push_term xs = do
+    x ← inner
+    pure (xs ++ x ∷ [])
+
+  -- the same behind a comma
+  unfoldable pub read_another_term : List RawTerm → Reader (List RawTerm)
+  read_another_term xs = pass m.Comma >> read_push_term xs
+
   unfoldable pub read_more_terms : List RawTerm → Reader (List RawTerm)
   read_more_terms = read_others kind (number m.Comma) inner
 
   unfoldable pub read_some_terms : Reader (List RawTerm)
-  read_some_terms = read_separated kind (number m.Comma) inner
+  read_some_terms = read_push_term [] >>= read_more_terms
 
   unfoldable pub read_any_terms : Reader (List RawTerm)
   read_any_terms = read_either kind values read_some_terms (pure [])
@@ -230,7 +274,7 @@ module _ (inner : Reader RawTerm) where
     pass m.LeftParen
     arguments ← read_any_terms
     pass m.RightParen
-    pure (node_of (name, arguments))
+    pure (t.Node name arguments)
 
   unfoldable pub read_term_over : Reader RawTerm
   read_term_over = read_either kind naturals read_leaf read_node
@@ -257,7 +301,7 @@ read_grammar = do
   sort ← read_sort
   prods ← read_prods []
   start ← read_start
-  pure (grammar_of (sort, (prods, start)))
+  pure (grammar_of sort prods start)
 
 unfoldable pub read_session : Reader RawScript
 read_session = do
@@ -274,4 +318,4 @@ read_all = do
   read_one_number
   grammar ← read_grammar
   session ← read_session
-  pure (job_of (tt, (grammar, session)))
+  pure (job_of grammar session)

@@ -10,12 +10,13 @@ ghost use Rattle.lrc_reader.specs.Reading as reading;
 ghost use Rattle.lrc_reader.specs.Gives.{Gives};
 
 use crate::fault::JobFault;
-use crate::lexeme::{Lexeme, Mark, kind_of, lexeme_of, number_of};
+use crate::lexeme::{Lexeme, Mark, NATURAL_KIND, WORD_KIND, kind_of, lexeme_of, number_of};
 use lrc_base::NameText;
 use lrc_lex::Token;
 use std::marker::Model;
 
 /// The tokens that are left of a text.
+#[derive(Drop)]
 pub struct Cursor<'a> {
     text: &'a [u8],
     tokens: &'a [Token],
@@ -61,15 +62,44 @@ impl<'a> Cursor<'a> {
         }
     }
 
-    /// Whether the next lexeme is this mark.
+    /// Whether the next lexeme is of this kind.
     #[tactic(auto, using(crate::proofs::Next::starts_next, crate::proofs::Next::starts_end, crate::proofs::Next::has_only))]
+    fn sees_kind(&self, wanted: u8) -> bool
+        ensures { result ≡ starts kind (wanted ∷ []) self.now }
+    {
+        match self.peek() {
+            Some(lexeme) => wanted == kind_of(lexeme),
+            None => false,
+        }
+    }
+
+    /// Whether the next lexeme is this mark.
     pub fn sees(&self, mark: Mark) -> bool
         ensures { result ≡ starts kind (number mark ∷ []) self.now }
     {
-        match self.peek() {
-            Some(lexeme) => number_of(mark) == kind_of(lexeme),
-            None => false,
-        }
+        self.sees_kind(number_of(mark))
+    }
+
+    /// Whether the next lexeme is a word.
+    pub fn sees_word(&self) -> bool
+        ensures { result ≡ starts kind reading.words self.now }
+    {
+        self.sees_kind(WORD_KIND)
+    }
+
+    /// Whether the next lexeme is a natural.
+    pub fn sees_natural(&self) -> bool
+        ensures { result ≡ starts kind reading.naturals self.now }
+    {
+        self.sees_kind(NATURAL_KIND)
+    }
+
+    /// Whether the next lexeme is a natural or a word.
+    #[tactic(auto, using(crate::proofs::Next::starts_two))]
+    pub fn sees_value(&self) -> bool
+        ensures { result ≡ starts kind reading.values self.now }
+    {
+        self.sees_natural() || self.sees_word()
     }
 
     /// Goes past this mark.

@@ -158,6 +158,12 @@ pub fn lexeme_of(text: &[u8], token: Token) -> Lexeme
     }
 }
 
+/// The kind of every word.
+pub const WORD_KIND: u8 = 0;
+
+/// The kind of every natural.
+pub const NATURAL_KIND: u8 = 1;
+
 /// The number of a mark, from 3 on.
 pub fn number_of(mark: Mark) -> u8
     ensures { result ≡ spec.number mark }
@@ -170,8 +176,8 @@ pub fn kind_of(lexeme: Lexeme) -> u8
     ensures { result ≡ spec.kind lexeme }
 {
     match lexeme {
-        Lexeme::Word(_) => 0,
-        Lexeme::Natural(_) => 1,
+        Lexeme::Word(_) => WORD_KIND,
+        Lexeme::Natural(_) => NATURAL_KIND,
         Lexeme::Other => 2,
         Lexeme::Mark(mark) => number_of(mark),
     }

@@ -3,8 +3,10 @@
 
 mod cursor;
 mod declare;
+mod expression;
 mod fault;
 mod lexeme;
+mod term;
 
 pub use fault::JobFault;
 pub use lexeme::{Lexeme, Mark};
