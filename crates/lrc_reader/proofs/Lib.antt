@@ -2,3 +2,4 @@ pub mod Next
 pub mod Turns
 pub mod Exactly
 pub mod Shorter
+pub mod Whole

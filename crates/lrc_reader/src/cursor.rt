@@ -1,6 +1,6 @@
 //! A cursor over the tokens of a text, seen as the lexemes that are left.
 
-ghost use Rattle.std.specs.Prelude.{◌≡◌, ◌≤◌, [], ◌∷◌, length, drop, slice_get, All};
+ghost use Rattle.std.specs.Prelude.{◌≡◌, ◌≤◌, [], ◌∷◌, ◌↔◌, IsTrue, length, drop, slice_get, All};
 ghost use Rattle.lrc_lex.specs.Longest.{IsTokenOf};
 ghost use Rattle.lrc_parse.specs.Kinds.{starts};
 ghost use Rattle.lrc_parse.specs.Reading.{read_fixed};
@@ -142,5 +142,27 @@ impl<'a> Cursor<'a> {
         };
         self.advance();
         Ok(value)
+    }
+
+    /// Goes past a natural of value 1.
+    #[tactic(auto, unfolding(crate::specs::Reading::read_one_number), using(crate::proofs::Next::one_took, crate::proofs::Next::one_end, crate::proofs::Next::one_other))]
+    pub fn one(&mut self) -> Result<(), JobFault>
+        ensures { Gives result self.new (reading.read_one_number self.old) }
+    {
+        let Some(lexeme) = self.peek() else {
+            return Err(JobFault::NotBuilt);
+        };
+        let Some(one) = lexeme.one() else {
+            return Err(JobFault::NotBuilt);
+        };
+        self.advance();
+        Ok(one)
+    }
+
+    /// Whether no lexeme is left.
+    pub fn is_at_end(&self) -> bool
+        ensures { IsTrue result ↔ (self.now ≡ []) }
+    {
+        self.tokens.is_empty()
     }
 }

@@ -3,6 +3,7 @@
 ghost use Rattle.std.specs.Prelude.{◌≡◌, map};
 ghost use Rattle.lrc_base.specs.Name.{IsName};
 ghost use Rattle.lrc_lex.specs.Longest.{IsTokenOf};
+ghost use Rattle.lrc_reader.specs.Grammar as grammar;
 ghost use Rattle.lrc_reader.specs.Lexeme as spec;
 
 use lrc_base::NameText;
@@ -200,6 +201,22 @@ impl Lexeme {
     {
         match self {
             Lexeme::Natural(value) => Some(*value),
+            _ => None,
+        }
+    }
+
+    /// That a natural is 1.
+    pub fn one(&self) -> Option<()>
+        ensures { result ≡ grammar.one_of self.now }
+    {
+        match self {
+            Lexeme::Natural(value) => {
+                if *value == 1 {
+                    Some(())
+                } else {
+                    None
+                }
+            }
             _ => None,
         }
     }

@@ -5,8 +5,10 @@ mod cursor;
 mod declare;
 mod expression;
 mod fault;
+mod job;
 mod lexeme;
 mod term;
 
 pub use fault::JobFault;
+pub use job::{one_job, read_job};
 pub use lexeme::{Lexeme, Mark};
