@@ -242,5 +242,5 @@ exact_session =
     then (exact_mark m.Session) (λ _. then (exact_mark m.On) (λ _. then (exact_term 1000) (λ tree. then (exact_mark m.LeftBrace) (λ _. then (exact_mark m.RightBrace) (λ _. end _) refl) refl) refl) refl) refl
 
 pub exact_job : Exact kind (begins (only m.Lrc)) IsJob read_all
-unfolding read_all
+unfolding IsJob read_all
 exact_job = then (exact_mark m.Lrc) (λ _. then exact_one_number (λ _. then exact_grammar (λ grammar. then exact_session (λ script. end _) refl) refl) refl) refl

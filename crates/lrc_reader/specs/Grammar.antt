@@ -251,7 +251,7 @@ abbrev pub job_of : RawGrammar → RawScript → Job
 job_of grammar script = record { grammar = grammar; sessions = script ∷ [] }
 
 -- "lrc" 1, the grammar and one session
-abbrev pub IsJob : Lang Lexeme Job
+unfoldable pub IsJob : Lang Lexeme Job
 IsJob = do
   mark m.Lrc
   One one_of

@@ -61,11 +61,16 @@ fn derived(alloc: Global, bytes: &[u8], found: &[Token]) -> Result<Job, JobFault
     ensures not_built { IsErrOf result JobFault.NotBuilt → (job : Job) → IsJob (lexemes bytes.now found.now) job → ⊥ }
 {
     let mut cursor = Cursor::new(bytes, found);
-    let job = job(alloc, &mut cursor)?;
-    if !cursor.is_at_end() {
-        return Err(JobFault::NotBuilt);
+    match job(alloc, &mut cursor) {
+        Ok(job) => {
+            if cursor.is_at_end() {
+                Ok(job)
+            } else {
+                Err(JobFault::NotBuilt)
+            }
+        }
+        Err(fault) => Err(fault),
     }
-    Ok(job)
 }
 
 /// The tokens of a text.
