@@ -97,7 +97,7 @@ exact_attrs : Exact kind (record { first = words; empty = false; more = only m.S
 unfolding read_attrs read_push_attr read_more_attrs
 exact_attrs =
     same_reading (exact_separated_most kind (number m.Syn) 16 (begins words) reading.attributes_limit IsAttr read_attr (lit≤ tt) refl exact_attr)
-      (λ u. sym (separated_most_is (number m.Syn) read_attr 16 words reading.attributes_limit u))
+    (λ u. sym (separated_most_is (number m.Syn) read_attr 16 words reading.attributes_limit u))
 
 pub exact_sort : Exact kind (begins (only m.Sort)) IsSort read_sort
 unfolding read_sort
@@ -125,7 +125,7 @@ exact_some_kids : Exact kind (record { first = words; empty = false; more = only
 unfolding read_some_kids read_push_kid read_more_kids
 exact_some_kids =
     same_reading (exact_separated_most kind (number m.Comma) 8 (begins words) reading.children_limit IsKid read_kid (lit≤ tt) refl exact_kid)
-      (λ u. sym (separated_most_is (number m.Comma) read_kid 8 words reading.children_limit u))
+    (λ u. sym (separated_most_is (number m.Comma) read_kid 8 words reading.children_limit u))
 
 exact_any_kids : Exact kind (record { first = words; empty = true; more = number m.Comma ∷ words }) (Either (Most 8 (Separated kind (number m.Comma) IsKid)) (Empty [])) read_any_kids
 unfolding read_any_kids

@@ -55,7 +55,6 @@ unfolding read_fixed
 fixed_stops k [] e = tt
 fixed_stops k (t ∷ u) e = rw (only_next k t u false e) tt
 
-
 -- one of two kinds
 pub starts_two : (j k : ℕ) (u : List Lexeme) → starts kind (j ∷ k ∷ []) u ≡ cond (starts kind (j ∷ []) u) true (starts kind (k ∷ []) u)
 starts_two j k [] = refl

@@ -1,5 +1,5 @@
 -- What the reader sees of a token.
-use Rattle.std.specs.Prelude.{ℕ, ℤ, pos, List, [], ◌∷◌, map, slice_range, Option, Some, None, if◌then◌else◌, ◌==◌, length}
+use Rattle.std.specs.Prelude.{ℕ, ℤ, pos, List, [], ◌∷◌, map, slice_range, Option, Some, None, if◌then◌else◌, ◌==◌, codes}
 use Rattle.std.specs.Str.{bytes_eq}
 use Rattle.lrc_lex.specs.declared.Token.{Token}
 use Rattle.lrc_lex.specs.declared.TokenClass.{TokenClass}
@@ -9,16 +9,57 @@ use Rattle.lrc_reader.specs.declared.lexeme.Mark.{Mark}
 use Rattle.lrc_reader.specs.declared.lexeme.Mark.TheVariants as m
 use Rattle.lrc_reader.specs.declared.lexeme.Lexeme.{Lexeme}
 use Rattle.lrc_reader.specs.declared.lexeme.Lexeme.TheVariants as l
-use Rattle.lrc_reader.specs.declared.lexeme.TheConstants.{MARKS}
 
 -- the first mark of a table that is spelled so
 abbrev pub mark_in : List (List ℕ × Mark) → List ℕ → Option Mark
 mark_in [] spelling = None
 mark_in (entry ∷ table) spelling = if bytes_eq entry.0 spelling then Some entry.1 else mark_in table spelling
 
+-- each reserved word and symbol with its spelling
+abbrev pub marks : List (List ℕ × Mark)
+marks =
+    (codes "{", m.LeftBrace) ∷
+    (codes "}", m.RightBrace) ∷
+    (codes "(", m.LeftParen) ∷
+    (codes ")", m.RightParen) ∷
+    (codes ":", m.Colon) ∷
+    (codes ";", m.Semicolon) ∷
+    (codes ",", m.Comma) ∷
+    (codes ".", m.Dot) ∷
+    (codes "=", m.Equals) ∷
+    (codes "==", m.SameAs) ∷
+    (codes "<", m.Less) ∷
+    (codes "+", m.Plus) ∷
+    (codes "-", m.Minus) ∷
+    (codes "*", m.Star) ∷
+    (codes "lrc", m.Lrc) ∷
+    (codes "sort", m.Sort) ∷
+    (codes "prod", m.Prod) ∷
+    (codes "start", m.Start) ∷
+    (codes "session", m.Session) ∷
+    (codes "inh", m.Inh) ∷
+    (codes "syn", m.Syn) ∷
+    (codes "local", m.Local) ∷
+    (codes "attach", m.Attach) ∷
+    (codes "text", m.Text) ∷
+    (codes "on", m.On) ∷
+    (codes "put", m.Put) ∷
+    (codes "copy", m.Copy) ∷
+    (codes "show", m.Show) ∷
+    (codes "forget", m.Forget) ∷
+    (codes "if", m.If) ∷
+    (codes "then", m.Then) ∷
+    (codes "else", m.Else) ∷
+    (codes "true", m.True) ∷
+    (codes "false", m.False) ∷
+    (codes "Int", m.Int) ∷
+    (codes "Bool", m.Bool) ∷
+    (codes "Name", m.Name) ∷
+    []
+
 -- the reserved word or symbol that is spelled so
 unfoldable pub mark_of : List ℕ → Option Mark
-mark_of = mark_in (map (λ k. (k.0.now, k.1)) MARKS)
+mark_of = mark_in marks
 
 -- a mark, or else a word
 abbrev pub word_or : List ℕ → Option Mark → Lexeme

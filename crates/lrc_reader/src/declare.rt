@@ -22,10 +22,7 @@ pub const CHILD_LIMIT: usize = 8;
 
 /// One attribute more, behind its `syn`.
 #[tactic(auto, unfolding(crate::specs::Reading::read_push_attr, crate::specs::Reading::read_attr))]
-fn push_attribute(
-    cursor: &mut Cursor<'_>,
-    attributes: &mut List<RawAttr>,
-) -> Result<(), JobFault>
+fn push_attribute(cursor: &mut Cursor<'_>, attributes: &mut List<RawAttr>) -> Result<(), JobFault>
     ensures { GivesAs (λ _. attributes.new) result cursor.new (reading.read_push_attr attributes.old cursor.old) }
 {
     let name = cursor.word()?;

@@ -52,11 +52,7 @@ fn atom(cursor: &mut Cursor<'_>) -> Result<RawExpr, JobFault>
 fn plus(alloc: Global, left: RawExpr, right: RawExpr) -> Result<RawExpr, AllocError>
     ensures { IfOk result (λ sum. sum ≡ RawExpr.Op Op.Add left right) }
 {
-    Ok(RawExpr::Op(
-        Op::Add,
-        Boxed::new(alloc, left)?,
-        Boxed::new(alloc, right)?,
-    ))
+    Ok(RawExpr::Op(Op::Add, Boxed::new(alloc, left)?, Boxed::new(alloc, right)?))
 }
 
 /// One atom more behind a `+`, if the two nodes more are within the limit; `nodes` are those of the sum so far.

@@ -103,5 +103,4 @@ pub fn read_job(alloc: Global, bytes: &[u8]) -> Result<Job, JobFault>
 /// A text denotes at most one job.
 pub fn one_job()
     ensures { (bytes : Sequence ℕ) (job other : Job) → Denotes bytes job → Denotes bytes other → job ≡ other }
-{
-}
+{}

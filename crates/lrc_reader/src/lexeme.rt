@@ -210,13 +210,7 @@ impl Lexeme {
         ensures { result ≡ grammar.one_of self.now }
     {
         match self {
-            Lexeme::Natural(value) => {
-                if *value == 1 {
-                    Some(())
-                } else {
-                    None
-                }
-            }
+            Lexeme::Natural(value) => { if *value == 1 { Some(()) } else { None } }
             _ => None,
         }
     }

@@ -11,4 +11,6 @@ mod term;
 
 pub use fault::JobFault;
 pub use job::{one_job, read_job};
-pub use lexeme::{Lexeme, Mark};
+
+#[cfg(test)]
+mod tests;
