@@ -34,7 +34,7 @@ fn counts(job: &Job) -> [usize; 4] {
 fn the_sums_are_read(rt: HostRuntime) -> Result<(), Fail> {
     let job = read_job(rt.alloc(), SUMS)?;
     assert!(rt; counts(&job) == [1, 3, 1, 2]);
-    assert!(rt; job.grammar.start.bytes() == b"Exp");
+    assert!(rt; job.grammar.start.bytes() == b"Exp".as_slice());
     Ok(())
 }
 
