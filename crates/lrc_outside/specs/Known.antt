@@ -1,0 +1,7 @@
+-- What whole runs of calls do to the bytes that a source has left and a sink holds, where they are told.
+use Rattle.std.specs.Prelude.{◌≡◌, ℕ, ◌<◌, ◌≤◌, Option, List, length, take, drop, ⊤, None, Some}
+use Rattle.std.specs.Io.KnownBytes.{Appends, Consumes}
+
+-- known bytes grow by the first bytes of bs, but not by all of them
+abbrev pub AppendsPart : Option (List ℕ) → Option (List ℕ) → List ℕ → Type 0
+AppendsPart old new bs = (n : ℕ) × (n < length bs) × Appends old new (take n bs)

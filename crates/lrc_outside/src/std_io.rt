@@ -1,0 +1,78 @@
+ghost use Rattle.std.specs.Prelude.{◌≡◌, ℕ, ◌-◌, ◌^◌, ◌<◌, ◌≤◌, Option, List, length, take, IfOk, OnErr};
+
+use crate::sink::Sink;
+use crate::source::{Failed, Source};
+use std::io::{Read, Write};
+
+/// A source that reads from a reader of std. Each error of the reader is a fault.
+#[derive(Debug, Drop)]
+pub struct ReadSource<R> {
+    reader: R,
+    faults: u64,
+    ghost counted: { faults ≤ 2 ^ 64 - 1 },
+}
+
+impl<R: Read> ReadSource<R> {
+    /// A source of what `reader` gives, with no faults so far.
+    pub fn new(reader: R) -> Self
+        ensures left { ⟦<ReadSource<R> as Source>⟧.left result ≡ R.remaining reader }
+        ensures faults { ⟦<ReadSource<R> as Source>⟧.faults result ≡ 0 }
+    {
+        ReadSource { reader, faults: 0 }
+    }
+}
+
+impl<R: Read> Source for ReadSource<R> {
+    ghost left = { λ source. R.remaining source.reader };
+
+    ghost faults = { λ source. source.faults };
+
+    ghost at_most = { λ source. source.counted };
+
+    fn take(&mut self, buf: &mut [u8]) -> Result<usize, Failed> {
+        match self.reader.read(buf) {
+            Ok(n) => Ok(n),
+            Err(_) => {
+                self.faults = self.faults.saturating_add(1);
+                Err(Failed)
+            }
+        }
+    }
+}
+
+/// A sink that writes to a writer of std. Each error of the writer is a fault, and so is a write
+/// that takes nothing.
+#[derive(Debug, Drop)]
+pub struct WriteSink<W> {
+    writer: W,
+    faults: u64,
+    ghost counted: { faults ≤ 2 ^ 64 - 1 },
+}
+
+impl<W: Write> WriteSink<W> {
+    /// A sink into `writer`, with no faults so far.
+    pub fn new(writer: W) -> Self
+        ensures held { ⟦<WriteSink<W> as Sink>⟧.held result ≡ W.contents writer }
+        ensures faults { ⟦<WriteSink<W> as Sink>⟧.faults result ≡ 0 }
+    {
+        WriteSink { writer, faults: 0 }
+    }
+}
+
+impl<W: Write> Sink for WriteSink<W> {
+    ghost held = { λ sink. W.contents sink.writer };
+
+    ghost faults = { λ sink. sink.faults };
+
+    ghost at_most = { λ sink. sink.counted };
+
+    fn put(&mut self, piece: &[u8]) -> Result<usize, Failed> {
+        match self.writer.write(piece) {
+            Ok(n) if n > 0 => Ok(n),
+            _ => {
+                self.faults = self.faults.saturating_add(1);
+                Err(Failed)
+            }
+        }
+    }
+}
