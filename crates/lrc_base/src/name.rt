@@ -37,16 +37,40 @@ impl Clone for NameText {
 
 impl Copy for NameText {}
 
+impl PartialEq for NameText {
+    ghost use Rattle.std.specs.Prelude.{ℕ, ◌==◌};
+    ghost use Rattle.std.specs.Str.{bytes_eq};
+    ghost use Rattle.std.proofs.Common.{rules};
+    ghost use Rattle.std.specs.Cmp.Rules.{comparing};
+
+    ghost eq = { bytes_eq };
+
+    ghost laws = { Prim.search (comparing, rules) };
+
+    fn eq(&self, other: &NameText) -> bool {
+        self.bytes() == other.bytes()
+    }
+}
+
+impl Eq for NameText {
+    ghost use Rattle.std.proofs.Common.{rules};
+    ghost use Rattle.std.specs.Cmp.Rules.{comparing};
+
+    ghost laws = { Prim.search (comparing, rules) };
+}
+
 impl NameText {
     /// The name of these bytes; None where there are 0 or more than 64 of them, or one of them is 0.
     pub fn of(bytes: &[u8]) -> Option<NameText>
-        ensures { MatchOption result (IsName bytes.now → ⊥) (λ name. (name ≡ bytes.now) × IsName bytes.now) }
+        ensures { MatchOption result (¬ IsName bytes.now) (λ name. (name ≡ bytes.now) × IsName bytes.now) }
     {
         if bytes.is_empty() || bytes.len() > NAME_LIMIT || bytes.contains(&0) {
             return None;
         }
         let mut padded = [0; NAME_LIMIT];
-        padded[..bytes.len()].copy_from_slice(bytes);
+        for (i, byte) in bytes.iter().enumerate() {
+            padded[i] = *byte;
+        }
         Some(NameText {
             padded,
             len: bytes.len(),
