@@ -3,8 +3,8 @@ ghost use Rattle.lrc_outside.specs.Count.{next_count, capped, capped_at_most};
 
 use crate::sink::Sink;
 use crate::source::Failed;
-use sqlite_items::Items;
-use std::alloc::{AllocError, Global};
+use lrc_base::{List, Memory};
+use std::alloc::Global;
 use std::marker::Model;
 
 /// A sink in memory with limited room, of which chosen calls fail.
@@ -16,7 +16,7 @@ pub struct MemorySink {
     bytes: Vec<u8>,
     len: usize,
     step: usize,
-    fails: Items<u64>,
+    fails: List<u64>,
     calls: u64,
     faults: u64,
 }
@@ -35,7 +35,7 @@ impl Model for MemorySink {
 impl MemorySink {
     /// An empty sink for `room` bytes, which takes at most `step` at a call. The calls are numbered
     /// from 0, and those whose numbers stand in `fails` fail.
-    pub fn new(alloc: Global, room: usize, step: usize, fails: &[u64]) -> Result<Self, AllocError>
+    pub fn new(alloc: Global, room: usize, step: usize, fails: &[u64]) -> Result<Self, Memory>
         requires { 1 ≤ step }
         ensures { IfOk result (λ sink. sink ≡ record { held = []; room = room; step = step; fails = fails.now; calls = 0; faults = 0 }) }
     {
@@ -43,7 +43,7 @@ impl MemorySink {
             bytes: vec![in alloc; 0; room]?,
             len: 0,
             step,
-            fails: Items::from_slice(alloc, fails)?,
+            fails: List::from_slice(alloc, fails)?,
             calls: 0,
             faults: 0,
         })

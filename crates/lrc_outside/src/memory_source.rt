@@ -2,8 +2,8 @@ ghost use Rattle.std.specs.Prelude.{◌≡◌, ℕ, [], ◌++◌, ◌-◌, ◌^�
 ghost use Rattle.lrc_outside.specs.Count.{next_count, capped, capped_at_most};
 
 use crate::source::{Failed, Source};
-use sqlite_items::Items;
-use std::alloc::{AllocError, Global};
+use lrc_base::{Bytes, List, Memory};
+use std::alloc::Global;
 use std::marker::Model;
 
 /// A source of bytes in memory, of which chosen calls fail.
@@ -12,10 +12,10 @@ use std::marker::Model;
 /// that fail, and how many calls and faults there were.
 #[derive(Debug, Drop)]
 pub struct MemorySource {
-    bytes: Items<u8>,
+    bytes: Bytes,
     at: usize,
     step: usize,
-    fails: Items<u64>,
+    fails: List<u64>,
     calls: u64,
     faults: u64,
 }
@@ -34,15 +34,15 @@ impl Model for MemorySource {
 impl MemorySource {
     /// A source of these bytes, which gives at most `step` at a call. The calls are numbered from
     /// 0, and those whose numbers stand in `fails` fail.
-    pub fn new(alloc: Global, bytes: &[u8], step: usize, fails: &[u64]) -> Result<Self, AllocError>
+    pub fn new(alloc: Global, bytes: &[u8], step: usize, fails: &[u64]) -> Result<Self, Memory>
         requires { 1 ≤ step }
         ensures { IfOk result (λ source. source ≡ record { left = bytes.now; step = step; fails = fails.now; calls = 0; faults = 0 }) }
     {
         Ok(MemorySource {
-            bytes: Items::from_slice(alloc, bytes)?,
+            bytes: List::from_slice(alloc, bytes)?,
             at: 0,
             step,
-            fails: Items::from_slice(alloc, fails)?,
+            fails: List::from_slice(alloc, fails)?,
             calls: 0,
             faults: 0,
         })

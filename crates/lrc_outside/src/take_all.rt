@@ -4,8 +4,8 @@ ghost use Rattle.lrc_outside.specs.Count.{Rose};
 ghost use Rattle.lrc_outside.specs.Known.{TakesUpTo, LosesUpTo};
 
 use crate::source::{Failed, Source};
-use sqlite_items::Items;
-use std::alloc::{AllocError, Global};
+use lrc_base::{Bytes, List, Memory};
+use std::alloc::Global;
 
 /// How many bytes are read at a time, at most.
 const BLOCK: usize = 65536;
@@ -29,12 +29,12 @@ impl From<Failed> for TakeFault {
     }
 }
 
-impl From<AllocError> for TakeFault {
+impl From<Memory> for TakeFault {
     ghost use Rattle.lrc_outside.specs.declared.take_all.TakeFault.{TakeFault};
 
     ghost from_gives = { λ _ fault. fault ≡ TakeFault.Memory };
 
-    fn from(_error: AllocError) -> TakeFault {
+    fn from(_memory: Memory) -> TakeFault {
         TakeFault::Memory
     }
 }
@@ -44,7 +44,11 @@ impl From<AllocError> for TakeFault {
 /// # Errors
 ///
 /// `Failed` where the source failed, and `Memory`. Some bytes are then lost.
-pub fn take_up_to<S: Source>(alloc: Global, source: &mut S, limit: usize) -> Result<Items<u8>, TakeFault>
+pub fn take_up_to<S: Source>(
+    alloc: Global,
+    source: &mut S,
+    limit: usize,
+) -> Result<Bytes, TakeFault>
     ensures taken { IfOk result (TakesUpTo limit (S.left source.old) (S.left source.new)) }
     ensures limit { IfOk result (λ bytes. length bytes ≤ limit) }
     ensures end { IfOk result (λ bytes. length bytes < limit → IsAtEnd (S.left source.new)) }
@@ -63,5 +67,5 @@ pub fn take_up_to<S: Source>(alloc: Global, source: &mut S, limit: usize) -> Res
         }
         bytes.extend_from_slice(&block[..n])?;
     }
-    Ok(Items::from_vec(bytes))
+    Ok(List::from_vec(bytes))
 }

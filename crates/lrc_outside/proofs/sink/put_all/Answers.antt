@@ -14,7 +14,8 @@ within_rest : (xs : List ℕ) (at n : ℕ) → at ≤ length xs → n ≤ length
 within_rest xs at n p q = let h = rw (take_rest, length-drop) at q in omega arith
 
 pub loop-at-preserved : goal.loop-at-preserved
-loop-at-preserved g c =
-    (within_rest c.args.bytes.now c.loop-at.at c.in_ok-at.field-0 c.loop-at.invariant.0 c.in_ok-at.ensures.within,
-    Appends-more _ _ _ c.args.bytes.now c.loop-at.at c.in_ok-at.field-0 c.loop-at.invariant.1 c.in_ok-at.ensures.appended,
-    omega (arith, c.loop-at.invariant.2, c.in_ok-at.ensures.never_falls))
+loop-at-preserved g c = (
+  within_rest c.args.bytes.now c.loop-at.at c.in_ok-at.field-0 c.loop-at.invariant.0 c.in_ok-at.ensures.within,
+  Appends-more _ _ _ c.args.bytes.now c.loop-at.at c.in_ok-at.field-0 c.loop-at.invariant.1 c.in_ok-at.ensures.appended,
+  omega (arith, c.loop-at.invariant.2, c.in_ok-at.ensures.never_falls),
+)

@@ -31,11 +31,12 @@ loop-block-preserved g c =
     let sofar = c.loop-block.invariant in
     let old = c.loop-block.bytes in
     let room : length c.take.new.buf ≤ c.args.limit - length old.items = omega (arith, old.ok.0, c.take.auto.buf, length-take {A = ℕ}) in
-    let test : length old.items < c.args.limit = omega (arith, old.ok.0) in
-    (within_limit old.items c.take.new.buf _ _ c.in_ok-n.n c.args.limit within room test e,
-    Consumes-more _ _ _ _ c.take.new.buf _ _ c.in_ok-n.n sofar.1 c.in_ok-n.ensures.given within e,
-    omega (arith, sofar.2, c.in_ok-n.ensures.never_falls),
-    search rules)
+    let test : length old.items < c.args.limit = omega (arith, old.ok.0) in (
+      within_limit old.items c.take.new.buf _ _ c.in_ok-n.n c.args.limit within room test e,
+      Consumes-more _ _ _ _ c.take.new.buf _ _ c.in_ok-n.n sofar.1 c.in_ok-n.ensures.given within e,
+      omega (arith, sofar.2, c.in_ok-n.ensures.never_falls),
+      search rules,
+    )
 
 pub returns-in_err-extend_from_slice-clause-lost :
     goal.returns-in_err-extend_from_slice-clause-lost
