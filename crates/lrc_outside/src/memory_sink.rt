@@ -27,7 +27,14 @@ impl Model for MemorySink {
 
     ghost Value = { Output };
 
-    ghost view = { λ s. record { held = take s.len s.bytes.items; room = length s.bytes.items; step = s.step; fails = s.fails; calls = s.calls; faults = s.faults } };
+    ghost view = { λ s. record {
+      held = take s.len s.bytes.items;
+      room = length s.bytes.items;
+      step = s.step;
+      fails = s.fails;
+      calls = s.calls;
+      faults = s.faults;
+    } };
 
     ghost invariant = { λ s. (s.len ≤ length s.bytes.items) × (1 ≤ s.step) };
 }
@@ -37,7 +44,15 @@ impl MemorySink {
     /// from 0, and those whose numbers stand in `fails` fail.
     pub fn new(alloc: Global, room: usize, step: usize, fails: &[u64]) -> Result<Self, Memory>
         requires { 1 ≤ step }
-        ensures { IfOk result (λ sink. sink ≡ record { held = []; room = room; step = step; fails = fails.now; calls = 0; faults = 0 }) }
+        ensures { IfOk result (λ sink.
+            sink ≡ record {
+              held = [];
+              room = room;
+              step = step;
+              fails = fails.now;
+              calls = 0;
+              faults = 0;
+            }) }
     {
         Ok(MemorySink {
             bytes: vec![in alloc; 0; room]?,
@@ -69,12 +84,20 @@ impl Sink for MemorySink {
         ensures room { length self.old.held ≤ self.old.room }
 
         // Which calls fail, and that such a call takes nothing.
-        ensures fails { IsErr result ↔ (Contains self.old.fails self.old.calls ⊎ (length self.old.held ≡ self.old.room)) }
-        ensures counted { OnErr result (self.new ≡ record self.old { calls = next_count self.old.calls; faults = next_count self.old.faults }) }
+        ensures fails { IsErr result ↔
+            (Contains self.old.fails self.old.calls ⊎ (length self.old.held ≡ self.old.room)) }
+        ensures counted { OnErr result (self.new ≡ record self.old {
+          calls = next_count self.old.calls;
+          faults = next_count self.old.faults;
+        }) }
 
         // How many bytes another call takes.
-        ensures count { IfOk result (λ n. n ≡ min (min self.old.step (length piece.now)) (self.old.room - length self.old.held)) }
-        ensures taken { IfOk result (λ n. self.new ≡ record self.old { held = self.old.held ++ take n piece.now; calls = next_count self.old.calls }) }
+        ensures count { IfOk result (λ n.
+            n ≡ min (min self.old.step (length piece.now)) (self.old.room - length self.old.held)) }
+        ensures taken { IfOk result (λ n. self.new ≡ record self.old {
+          held = self.old.held ++ take n piece.now;
+          calls = next_count self.old.calls;
+        }) }
     {
         let call = self.calls;
         self.calls = call.saturating_add(1);

@@ -1,4 +1,4 @@
-ghost use Rattle.std.specs.Prelude.{◌≡◌, ℕ, [], ◌++◌, ◌-◌, ◌^◌, ◌<◌, ◌≤◌, ◌↔◌, Some, length, take, drop, min, IsErr, IfOk, OnErr, Contains};
+ghost use Rattle.std.specs.Prelude.{◌≡◌, ◌++◌, ◌≤◌, ◌↔◌, Some, length, take, drop, min, IsErr, IfOk, OnErr, Contains};
 ghost use Rattle.lrc_outside.specs.Count.{next_count, capped, capped_at_most};
 
 use crate::source::{Failed, Source};
@@ -26,7 +26,13 @@ impl Model for MemorySource {
 
     ghost Value = { Input };
 
-    ghost view = { λ s. record { left = drop s.at s.bytes; step = s.step; fails = s.fails; calls = s.calls; faults = s.faults } };
+    ghost view = { λ s. record {
+      left = drop s.at s.bytes;
+      step = s.step;
+      fails = s.fails;
+      calls = s.calls;
+      faults = s.faults;
+    } };
 
     ghost invariant = { λ s. (s.at ≤ length s.bytes) × (1 ≤ s.step) };
 }
@@ -36,7 +42,14 @@ impl MemorySource {
     /// 0, and those whose numbers stand in `fails` fail.
     pub fn new(alloc: Global, bytes: &[u8], step: usize, fails: &[u64]) -> Result<Self, Memory>
         requires { 1 ≤ step }
-        ensures { IfOk result (λ source. source ≡ record { left = bytes.now; step = step; fails = fails.now; calls = 0; faults = 0 }) }
+        ensures { IfOk result (λ source.
+            source ≡ record {
+              left = bytes.now;
+              step = step;
+              fails = fails.now;
+              calls = 0;
+              faults = 0;
+            }) }
     {
         Ok(MemorySource {
             bytes: List::from_slice(alloc, bytes)?,
@@ -61,13 +74,20 @@ impl Source for MemorySource {
 
         // Which calls fail, and that such a call moves nothing.
         ensures fails { IsErr result ↔ Contains self.old.fails self.old.calls }
-        ensures counted { OnErr result (self.new ≡ record self.old { calls = next_count self.old.calls; faults = next_count self.old.faults }) }
+        ensures counted { OnErr result (self.new ≡ record self.old {
+          calls = next_count self.old.calls;
+          faults = next_count self.old.faults;
+        }) }
         ensures untouched { OnErr result (buf.new ≡ buf.old) }
 
         // How many bytes another call moves, and which.
-        ensures count { IfOk result (λ n. n ≡ min (min self.old.step (length buf.old)) (length self.old.left)) }
+        ensures count { IfOk result (λ n.
+            n ≡ min (min self.old.step (length buf.old)) (length self.old.left)) }
         ensures copied { IfOk result (λ n. buf.new ≡ take n self.old.left ++ drop n buf.old) }
-        ensures moved { IfOk result (λ n. self.new ≡ record self.old { left = drop n self.old.left; calls = next_count self.old.calls }) }
+        ensures moved { IfOk result (λ n. self.new ≡ record self.old {
+          left = drop n self.old.left;
+          calls = next_count self.old.calls;
+        }) }
     {
         let call = self.calls;
         self.calls = call.saturating_add(1);

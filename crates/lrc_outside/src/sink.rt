@@ -23,12 +23,13 @@ pub trait Sink {
         requires { 0 < length piece.now }
         ensures some { IfOk result (λ n. 1 ≤ n) }
         ensures within { IfOk result (λ n. n ≤ length piece.now) }
-        ensures appended { IfOk result (λ n. Appends (held self.old) (held self.new) (take n piece.now)) }
+        ensures appended { IfOk result (λ n.
+            Appends (held self.old) (held self.new) (take n piece.now)) }
         ensures kept { OnErr result (Keeps (held self.old) (held self.new)) }
         ensures rose { OnErr result (Rose (faults self.old) (faults self.new)) }
         ensures never_falls { faults self.old ≤ faults self.new };
 
-    // A count has a last value, at which it stays.
+    // A count has a last value, 18446744073709551615, at which it stays.
     ghost at_most: { (sink : Self) → faults sink ≤ 2 ^ 64 - 1 };
 }
 

@@ -23,12 +23,13 @@ pub trait Source {
     fn take(&mut self, buf: &mut [u8]) -> Result<usize, Failed>
         requires { 0 < length buf.old }
         ensures within { IfOk result (λ n. n ≤ length buf.new) }
-        ensures given { IfOk result (λ n. Consumes (left self.old) (left self.new) (take n buf.new)) }
+        ensures given { IfOk result (λ n.
+            Consumes (left self.old) (left self.new) (take n buf.new)) }
         ensures end { IfOk result (λ n. n ≡ 0 → IsAtEnd (left self.new)) }
         ensures kept { OnErr result (Keeps (left self.old) (left self.new)) }
         ensures rose { OnErr result (Rose (faults self.old) (faults self.new)) }
         ensures never_falls { faults self.old ≤ faults self.new };
 
-    // A count has a last value, at which it stays.
+    // A count has a last value, 18446744073709551615, at which it stays.
     ghost at_most: { (source : Self) → faults source ≤ 2 ^ 64 - 1 };
 }

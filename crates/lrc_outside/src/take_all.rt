@@ -53,7 +53,8 @@ pub fn take_up_to<S: Source>(
     ensures limit { IfOk result (λ bytes. length bytes ≤ limit) }
     ensures end { IfOk result (λ bytes. length bytes < limit → IsAtEnd (S.left source.new)) }
     ensures lost { OnErr result (LosesUpTo limit (S.left source.old) (S.left source.new)) }
-    ensures rose { result ≡ Err TakeFault.Failed → Rose (S.faults source.old) (S.faults source.new) }
+    ensures rose { result ≡ Err TakeFault.Failed →
+        Rose (S.faults source.old) (S.faults source.new) }
     ensures never_falls { S.faults source.old ≤ S.faults source.new }
 {
     let mut buffer = vec![in alloc; 0; BLOCK.min(limit)]?;

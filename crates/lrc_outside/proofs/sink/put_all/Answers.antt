@@ -10,6 +10,7 @@ Appends-more : (a b c : Option (List ℕ)) (xs : List ℕ) (at n : ℕ) → Appe
     → Appends b c (take n (take (length xs - at) (drop at xs))) → Appends a c (take (at + n) xs)
 Appends-more a b c xs at n p q = rw take-add (Appends-trans a b c _ _ p (rw take_rest at q))
 
+-- the first of the rest are within the whole
 within_rest : (xs : List ℕ) (at n : ℕ) → at ≤ length xs → n ≤ length (take (length xs - at) (drop at xs)) → at + n ≤ length xs
 within_rest xs at n p q = let h = rw (take_rest, length-drop) at q in omega arith
 
