@@ -176,18 +176,18 @@ second_of_front c (d ∷ rest) (suc (suc n)) e = let second : d ≡ 61 = cc in e
 
 symbol_is_next : (c : ℕ) (rest : List ℕ) → is_symbol c ≡ true → starts_word c ≡ false → is_ascii_digit c ≡ false → (c == 61 && begins_with (λ d. d == 61) rest) ≡ false → (c == 45 && begins_with is_ascii_digit rest) ≡ false → IsNext (c ∷ rest) Symbol 1
 symbol_is_next c rest symbol no_word no_digit no_equality no_negative = record {
-      some = omega arith;
-      within = omega arith;
-      form = inl (refl, symbol);
-      longest = longest_by c rest 1 (omega arith) (record {
-        word = λ m longer within word _. false≢true (sym no_word ∙ word);
-        natural = λ m longer within h. false≢true (sym no_digit ∙ first_passes is_ascii_digit c rest m (omega arith) h);
-        negative = λ m longer within e h. false≢true (sym no_negative ∙ and_from _ _ (eq-eqb c 45 e) (digits_after c rest m (omega arith) h));
-        equality = λ m longer within e. false≢true (sym no_equality ∙ and_from _ _ (eq-eqb c 61 (first_of_front c rest m (omega arith) e)) (second_of_front c rest m e));
-      });
-      name = λ e. cc;
-      number = λ e. cc;
-    }
+  some = omega arith;
+  within = omega arith;
+  form = inl (refl, symbol);
+  longest = longest_by c rest 1 (omega arith) (record {
+    word = λ m longer within word _. false≢true (sym no_word ∙ word);
+    natural = λ m longer within h. false≢true (sym no_digit ∙ first_passes is_ascii_digit c rest m (omega arith) h);
+    negative = λ m longer within e h. false≢true (sym no_negative ∙ and_from _ _ (eq-eqb c 45 e) (digits_after c rest m (omega arith) h));
+    equality = λ m longer within e. false≢true (sym no_equality ∙ and_from _ _ (eq-eqb c 61 (first_of_front c rest m (omega arith) e)) (second_of_front c rest m e));
+  });
+  name = λ e. cc;
+  number = λ e. cc;
+}
 
 -- What a step says of the text.
 abbrev pub Says : List ℕ → Step → Type 0

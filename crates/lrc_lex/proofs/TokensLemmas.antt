@@ -69,10 +69,10 @@ pub record Reads (text : List ℕ) (found : List Token) (at : ℕ) : Type 0 wher
 
 pub reads_none : (text : List ℕ) → Reads text [] 0
 reads_none text = record {
-      within = omega arith;
-      completes = λ rest tokens. tokens;
-      only = λ all tokens. (all, tokens);
-    }
+  within = omega arith;
+  completes = λ rest tokens. tokens;
+  only = λ all tokens. (all, tokens);
+}
 
 -- the step at a place decides what follows
 past_skip : {left : List ℕ} {at : ℕ} {n : ℕ} {rest : List Token} → TokensFrom left at rest → next left ≡ Skip n → TokensFrom (drop n left) (at + n) rest

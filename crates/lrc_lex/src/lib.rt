@@ -9,10 +9,9 @@ mod decimal;
 mod scan;
 
 use crate::scan::{Step, next};
+pub use decimal::natural;
 use lrc_base::{List, Memory};
 use std::alloc::Global;
-
-pub use decimal::natural;
 
 /// The most bytes of a text.
 pub const TEXT_LIMIT: usize = 16_777_216;
@@ -56,7 +55,7 @@ impl From<Memory> for LexFault {
 
 /// The tokens of the whole text, in order.
 pub fn tokens(alloc: Global, text: &[u8]) -> Result<List<Token>, LexFault>
-    requires { length text.now ≤ 16777216 }
+    requires { length text.now ≤ TEXT_LIMIT }
     ensures ok { IfOk result (λ found. Tokens text.now found) }
     ensures each { IfOk result (λ found. All (IsTokenOf text.now) found) }
     ensures not_built { IsErrOf result LexFault.NotBuilt → (found : Sequence Token) → Tokens text.now found → ⊥ }
@@ -86,5 +85,59 @@ pub fn tokens(alloc: Global, text: &[u8]) -> Result<List<Token>, LexFault>
 pub fn token_laws()
     ensures one_list { (text : Sequence ℕ) (found others : Sequence Token) → Tokens text found → Tokens text others → found ≡ others }
     ensures each { (text : Sequence ℕ) (found : Sequence Token) → Tokens text found → All (IsTokenOf text) found }
-{
+{}
+
+#[cfg(test)]
+mod tests {
+    use super::*;
+    use std::test::Fail;
+
+    #[test]
+    fn takes_words_naturals_and_symbols(rt: HostRuntime) -> Result<(), Fail> {
+        let found = tokens(
+            rt.alloc(),
+            b"_a1{}():;,.===<+-*\t\r\n007b - 9223372036854775807",
+        )?;
+        let mut wanted = List::new(rt.alloc());
+        wanted.push(token(TokenClass::Word, 0, 3))?;
+        for at in 3..11 {
+            wanted.push(token(TokenClass::Symbol, at, at + 1))?;
+        }
+        wanted.push(token(TokenClass::Symbol, 11, 13))?;
+        for at in 13..18 {
+            wanted.push(token(TokenClass::Symbol, at, at + 1))?;
+        }
+        wanted.push(token(TokenClass::Natural, 21, 24))?;
+        wanted.push(token(TokenClass::Word, 24, 25))?;
+        wanted.push(token(TokenClass::Symbol, 26, 27))?;
+        wanted.push(token(TokenClass::Natural, 28, 47))?;
+        assert_eq!(rt; found.as_slice(), wanted.as_slice());
+        assert_eq!(rt; natural(b"007"), 7);
+        Ok(())
+    }
+
+    fn token(class: TokenClass, at: u32, end: u32) -> Token {
+        Token { class, at, end }
+    }
+
+    #[test]
+    fn refuses_the_rest(rt: HostRuntime) {
+        let long_word = [b'a'; 65];
+        let refused = [
+            b"a # b".as_slice(),
+            b"'a",
+            b"\"a\"",
+            b"/1",
+            b"a -1",
+            b"a\xc3\xa9",
+            b"a\0",
+            b"$",
+            b"9223372036854775808",
+            long_word.as_slice(),
+        ];
+        for text in refused {
+            assert!(rt; text.len() <= TEXT_LIMIT);
+            assert_eq!(rt; tokens(rt.alloc(), text).err(), Some(LexFault::NotBuilt));
+        }
+    }
 }
