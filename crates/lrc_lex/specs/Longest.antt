@@ -6,7 +6,7 @@ use Rattle.lrc_base.specs.Name.{IsName}
 use Rattle.lrc_lex.specs.declared.TokenClass.{TokenClass}
 use Rattle.lrc_lex.specs.declared.TokenClass.TheVariants.{Word, Natural, Negative, NameLit, Text, Path, Symbol}
 use Rattle.lrc_lex.specs.declared.Token.{Token}
-use Rattle.lrc_lex.specs.Decimal.{IsNatural}
+use Rattle.lrc_lex.specs.Decimal.{natural_value, IsNatural}
 use Rattle.lrc_lex.specs.Tokens.{starts_word, continues_word, is_symbol, begins_with}
 
 -- one digit or more
@@ -22,6 +22,22 @@ IsToken Symbol bytes = ((length bytes ≡ 1) × (is_symbol (slice_index bytes 0)
 IsToken NameLit bytes = ⊥
 IsToken Text bytes = ⊥
 IsToken Path bytes = ⊥
+
+-- The first n bytes of what is left of a text are a token of this class, and no more of them are a token.
+pub record IsLongest (left : List ℕ) (class : TokenClass) (n : ℕ) : Type 0 where
+  pub within : n ≤ length left
+  pub form : IsToken class (take n left)
+  pub longest : (other : TokenClass) (m : ℕ) → n < m → m ≤ length left → IsToken other (take m left) → ⊥
+
+-- The class is one of those that are taken, and the token is within its limit.
+abbrev pub IsTaken : TokenClass → List ℕ → Type 0
+IsTaken Word bytes = length bytes ≤ 64
+IsTaken Natural bytes = natural_value bytes ≤ 9223372036854775807
+IsTaken Symbol bytes = Unit {0}
+IsTaken Negative bytes = ⊥
+IsTaken NameLit bytes = ⊥
+IsTaken Text bytes = ⊥
+IsTaken Path bytes = ⊥
 
 -- The token is within the text, has the form of its class, and no longer token stands at its place. A word is a name, and a number fits.
 pub record IsTokenOf (text : List ℕ) (token : Token) : Type 0 where

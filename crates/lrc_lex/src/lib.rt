@@ -1,9 +1,10 @@
 //! Cuts the text of a job into tokens.
 #![tactic(auto)]
 
-ghost use Rattle.std.specs.Prelude.{◌≡◌, ℕ, ◌≤◌, List as Sequence, length, All, IfOk, IsErrOf};
-ghost use Rattle.lrc_lex.specs.Tokens.{Tokens};
-ghost use Rattle.lrc_lex.specs.Longest.{IsTokenOf};
+ghost use Rattle.std.specs.Prelude.{◌≡◌, ℕ, ◌≤◌, ◌↔◌, List as Sequence, length, take, All, IfOk, IsErrOf};
+ghost use Rattle.lrc_lex.specs.Tokens.{next, Tokens};
+ghost use Rattle.lrc_lex.specs.declared.scan.Step.TheVariants.{Take};
+ghost use Rattle.lrc_lex.specs.Longest.{IsTokenOf, IsLongest, IsTaken};
 
 mod decimal;
 mod scan;
@@ -81,10 +82,12 @@ pub fn tokens(alloc: Global, text: &[u8]) -> Result<List<Token>, LexFault>
 }
 
 /// What holds of the tokens of any text: there is one list of them at most, and each is the
-/// longest token at its place, of the form of its class.
+/// longest one at its place. A token is taken at the front of a text exactly where it is the
+/// longest one there, and within the limit of its class.
 pub fn token_laws()
     ensures one_list { (text : Sequence ℕ) (found others : Sequence Token) → Tokens text found → Tokens text others → found ≡ others }
     ensures each { (text : Sequence ℕ) (found : Sequence Token) → Tokens text found → All (IsTokenOf text) found }
+    ensures takes { (left : Sequence ℕ) (class : TokenClass) (n : ℕ) → (next left ≡ Take class n) ↔ (IsLongest left class n × IsTaken class (take n left)) }
 {}
 
 #[cfg(test)]
