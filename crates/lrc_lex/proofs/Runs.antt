@@ -1,5 +1,5 @@
 -- The longest run of elements from the front that pass a test.
-use Rattle.std.proofs.Common.{inl, inr, ◌≡◌, ℕ, ◌<◌, ◌≤◌, Bool, true, false, List, length, get_or, take, sym, ap, ◌∙◌, arith, get_or-take, length-take}
+use Rattle.std.proofs.Common.{inl, inr, ◌≡◌, ℕ, ◌<◌, ◌≤◌, Bool, List, length, take, sym, ap, ◌∙◌, arith, get_or-take, length-take}
 use Rattle.std.specs.List.{prefix_len, take_while, AllPass}
 use Rattle.std.proofs.lemmas.List.Sums.{prefix_len_passes, prefix_len_stops}
 use Rattle.std.proofs.lemmas.List.Folds.{length-prefix_len}
