@@ -1,5 +1,5 @@
 -- What a token of each class looks like, and that each token of a text is the longest one at its place.
-use Rattle.std.specs.Prelude.{◌≡◌, ℕ, ◌==◌, ◌<◌, ◌≤◌, ◌⊎◌, true, List, [], ◌∷◌, length, take, drop, slice_index, slice_range}
+use Rattle.std.specs.Prelude.{◌≡◌, ℕ, ◌==◌, ◌<◌, ◌≤◌, ◌⊎◌, true, List, length, take, drop, slice_index, slice_range, codes}
 use Rattle.std.specs.Char.{is_ascii_digit}
 use Rattle.std.specs.List.{AllPass}
 use Rattle.lrc_base.specs.Name.{IsName}
@@ -13,12 +13,12 @@ use Rattle.lrc_lex.specs.Tokens.{starts_word, continues_word, is_symbol, begins_
 abbrev pub IsDigits : List ℕ → Type 0
 IsDigits bytes = (1 ≤ length bytes) × AllPass is_ascii_digit bytes
 
--- The bytes have the form of a token of this class, whatever their number and value. The forms of the last three classes aren't built.
+-- The bytes have the form of a token of this class, whatever their number and value; 45 is `-`. The forms of the last three classes aren't built.
 abbrev pub IsToken : TokenClass → List ℕ → Type 0
 IsToken Word bytes = (begins_with starts_word bytes ≡ true) × AllPass continues_word bytes
 IsToken Natural bytes = IsDigits bytes
 IsToken Negative bytes = (begins_with (λ c. c == 45) bytes ≡ true) × IsDigits (drop 1 bytes)
-IsToken Symbol bytes = ((length bytes ≡ 1) × (is_symbol (slice_index bytes 0) ≡ true)) ⊎ (bytes ≡ 61 ∷ 61 ∷ [])
+IsToken Symbol bytes = ((length bytes ≡ 1) × (is_symbol (slice_index bytes 0) ≡ true)) ⊎ (bytes ≡ codes "==")
 IsToken NameLit bytes = ⊥
 IsToken Text bytes = ⊥
 IsToken Path bytes = ⊥

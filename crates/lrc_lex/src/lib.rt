@@ -1,4 +1,4 @@
-//! Cuts the text of a job into tokens.
+//! Cuts the text of a job into tokens, the longest one at each place.
 #![tactic(auto)]
 
 ghost use Rattle.std.specs.Prelude.{◌≡◌, ℕ, ◌≤◌, ◌↔◌, List as Sequence, length, take, All, IfOk, IsErrOf};
@@ -17,19 +17,26 @@ use std::alloc::Global;
 /// The most bytes of a text.
 pub const TEXT_LIMIT: usize = 16_777_216;
 
-/// What a token is.
+/// What a token is. So far only words, naturals and symbols are read.
 #[derive(Debug, Clone, Copy, PartialEq, Eq)]
 pub enum TokenClass {
+    /// A letter or `_`, then letters, digits and `_`: 64 bytes at most.
     Word,
+    /// Decimal digits, whose value is at most 2^63 - 1.
     Natural,
+    /// `-` directly followed by decimal digits.
     Negative,
+    /// `'` directly followed by a word.
     NameLit,
+    /// A text in double quotes.
     Text,
+    /// A place of a tree: `/`, or groups of `/` and digits.
     Path,
+    /// One of `{ } ( ) : ; , . = == < + - *`.
     Symbol,
 }
 
-/// A token of a text: the bytes from `at` up to `end`.
+/// A token of a text: the bytes from `at` up to `end`, counted from 0.
 #[derive(Debug, Clone, Copy, PartialEq, Eq)]
 pub struct Token {
     pub class: TokenClass,
@@ -37,10 +44,13 @@ pub struct Token {
     pub end: u32,
 }
 
-/// Why a text has no tokens here: want of memory, or something in it that isn't read yet.
+/// Why a text has no tokens.
 #[derive(Debug, Clone, Copy, PartialEq, Eq)]
 pub enum LexFault {
+    /// Memory ran out.
     Memory = 5,
+    /// Something stands in the text that isn't read: a comment, a token of another class, a word
+    /// or a natural past its limit, or a byte that begins no token.
     NotBuilt = 6,
 }
 
@@ -54,7 +64,8 @@ impl From<Memory> for LexFault {
     }
 }
 
-/// The tokens of the whole text, in order.
+/// The tokens of the whole text, in order, for words, naturals and symbols that are separated by
+/// spaces, tabs, line feeds and carriage returns.
 pub fn tokens(alloc: Global, text: &[u8]) -> Result<List<Token>, LexFault>
     requires { length text.now ≤ TEXT_LIMIT }
     ensures ok { IfOk result (λ found. Tokens text.now found) }
