@@ -3,8 +3,8 @@ use Rattle.std.proofs.Common.{◌≡◌, ℕ, zero, suc, ◌+◌, ◌<◌, ◌�
 use Rattle.std.proofs.lemmas.List.{append-nil}
 use Rattle.std.proofs.lemmas.Bool.{lt-ltb, ltb-true}
 use Rattle.lrc_parse.specs.Kinds.{has, disjoint, starts}
-use Rattle.lrc_parse.specs.Language.{Lang, Of, Given, Within, Many, Most, fold_left, Chain, Turns, Loop, Skip, Separated}
-use Rattle.lrc_parse.specs.Reading.{Cause, Reading, took, stops, on_took, read_of, read_given, read_within, read_skip, read_loop, read_push, read_many, read_push_most, read_most, read_others, read_separated, read_others_most, read_separated_most, read_joined, read_chain}
+use Rattle.lrc_parse.specs.Language.{Lang, Of, Given, Within, Many, Most, fold_left, Chain, Turns, Loop, Skip, Separated, Folded}
+use Rattle.lrc_parse.specs.Reading.{Cause, Reading, took, stops, on_took, read_of, read_given, read_within, read_skip, read_loop, read_push, read_many, read_push_most, read_most, read_others, read_separated, read_others_most, read_separated_most, read_joined, read_chain, read_join_most, read_joined_most, read_folded_most}
 use Rattle.lrc_parse.specs.Exact.{Shape, Exact, shape_then, shape_many, shape_skip}
 use Rattle.lrc_parse.proofs.Parts.{exact_as, exact_of, exact_given, exact_skip, exact_within}
 use Rattle.lrc_parse.proofs.Loops.{exact_loop}
@@ -196,4 +196,55 @@ module _ {T : Type 0} (kind : T → ℕ) where
           let h : length (x ∷ xs) ≤ n = m.1 in
           (m.0.0, m.0.1, x, m.0.2, m.0.3, (length xs, subst (λ v. Turns (other_step k n L) (length xs) (x ∷ []) m.0.1 v) (fold_pushed (x ∷ []) xs) (back (x ∷ []) xs m.0.1 m.0.4 (omega (arith, h)))))
       same : (u : List T) → read_separated_most kind k n s.first c a u ≡ read_given a (λ x. read_others_most kind k n s.first c a (x ∷ [])) u
+      same u = refl
+
+  -- a separator, and one item joined to the value so far where there is room
+  abbrev join_step : {A : Type 0} → ℕ → ℕ → (A → A → A) → Lang T A → A × ℕ → Lang T (A × ℕ)
+  join_step k n f L z = Skip kind k (Within (ltb z.1 n) (Of (λ y. (f z.0 y, z.1 + 1)) L))
+
+  -- turns that join an item each stand for the fold of as many items as there was room for
+  join_out : {A : Type 0} (k n : ℕ) (f : A → A → A) (L : Lang T A) (j : ℕ) (x : A) (c : ℕ) (u : List T) (z : A × ℕ) →
+      Turns (join_step k n f L) j (x, c) u z → c ≤ n →
+      (ys : List A) × Many (Skip kind k L) u ys × (z.0 ≡ fold_left f x ys) × (c + length ys ≤ n)
+  join_out k n f L zero x c u z m h = ([], m.0, ap (λ w. w.0) m.1, omega (arith, h))
+  join_out {A} k n f L (suc j) x c u z m h =
+      let lt : c < n = ltb-true c n m.4.4.0 in
+      let t : Turns (join_step k n f L) j (f x m.4.4.1.0, c + 1) m.1 z = subst (λ w. Turns (join_step k n f L) j w m.1 z) m.4.4.1.2 m.5 in
+      let w : (ys : List A) × Many (Skip kind k L) m.1 ys × (z.0 ≡ fold_left f (f x m.4.4.1.0) ys) × (c + 1 + length ys ≤ n) = join_out k n f L j (f x m.4.4.1.0) (c + 1) m.1 z t (omega (arith, lt)) in
+      let b : c + 1 + length w.0 ≤ n = w.3 in
+      (m.4.4.1.0 ∷ w.0, (m.0, m.1, m.3, (m.4.0, m.4.1, m.4.2, m.4.3, m.4.4.1.1), w.1), w.2, omega (arith, b))
+
+  join_back : {A : Type 0} (k n : ℕ) (f : A → A → A) (L : Lang T A) (x : A) (c : ℕ) (ys : List A) (u : List T) →
+      Many (Skip kind k L) u ys → c + length ys ≤ n →
+      (d : ℕ) × Turns (join_step k n f L) (length ys) (x, c) u (fold_left f x ys, d)
+  join_back k n f L x c [] u m h = (c, (m, refl))
+  join_back {A} k n f L x c (y ∷ ys) u m h =
+      let w : (d : ℕ) × Turns (join_step k n f L) (length ys) (f x y, c + 1) m.1 (fold_left f (f x y) ys, d) = join_back k n f L (f x y) (c + 1) ys m.1 m.4 (omega (arith, h)) in
+      (w.0, (m.0, m.1, (f x y, c + 1), m.2, (m.3.0, m.3.1, m.3.2, m.3.3, (lt-ltb c n (omega (arith, h)), (y, m.3.4, refl))), w.1))
+
+  pub exact_folded_most : {A : Type 0} (k n : ℕ) (s : Shape) (c : Cause) (f : A → A → A) (L : Lang T A) (a : List T → Reading T A) →
+      1 ≤ n → disjoint s.more (k ∷ []) ≡ true → Exact kind s L a →
+      Exact kind (shape_then s (shape_many (shape_skip k s))) (Folded f (Most n (Separated kind k L))) (read_folded_most kind k n s.first c f a)
+  unfolding read_joined_most read_join_most read_folded_most read_given
+  exact_folded_most {A} k n s c f L a one d e =
+      exact_as kind (shape_then s (shape_many (shape_skip k s))) (Given L (λ x. Of (λ (z : A × ℕ). z.0) (Loop (join_step k n f L) (x, 1)))) (Folded f (Most n (Separated kind k L)))
+        (read_given a (λ x. read_joined_most kind k n s.first c f a 1 x)) (read_folded_most kind k n s.first c f a)
+        (exact_given kind s (shape_many (shape_skip k s)) L (λ x. Of (λ (z : A × ℕ). z.0) (Loop (join_step k n f L) (x, 1))) a (λ x. read_joined_most kind k n s.first c f a 1 x) d e joined) to from same
+    where
+      joined : (x : A) → Exact kind (shape_many (shape_skip k s)) (Of (λ (z : A × ℕ). z.0) (Loop (join_step k n f L) (x, 1))) (read_joined_most kind k n s.first c f a 1 x)
+      joined x = exact_of kind (λ (z : A × ℕ). z.0) (shape_many (shape_skip k s)) (Loop (join_step k n f L) (x, 1)) _
+          (exact_loop kind (shape_skip k s) (join_step k n f L) (λ z. read_skip kind k (read_within kind (ltb z.1 n) s.first c (read_of (λ y. (f z.0 y, z.1 + 1)) a))) refl d
+            (λ z. exact_skip kind k s (Within (ltb z.1 n) (Of (λ y. (f z.0 y, z.1 + 1)) L)) (read_within kind (ltb z.1 n) s.first c (read_of (λ y. (f z.0 y, z.1 + 1)) a))
+              (exact_within kind (ltb z.1 n) s c (Of (λ y. (f z.0 y, z.1 + 1)) L) (read_of (λ y. (f z.0 y, z.1 + 1)) a) (exact_of kind (λ y. (f z.0 y, z.1 + 1)) s L a e))) (x, 1))
+      to : (u : List T) (y : A) → Given L (λ x. Of (λ (z : A × ℕ). z.0) (Loop (join_step k n f L) (x, 1))) u y → Folded f (Most n (Separated kind k L)) u y
+      to u y m =
+          let w : (ys : List A) × Many (Skip kind k L) m.1 ys × (m.5.0.0 ≡ fold_left f m.2 ys) × (1 + length ys ≤ n) = join_out k n f L m.5.1.0 m.2 1 m.1 m.5.0 m.5.1.1 one in
+          let b : 1 + length w.0 ≤ n = w.3 in
+          (m.2, w.0, ((m.0, m.1, m.3, m.4, w.1), omega (arith, b)), m.5.2 ∙ w.2)
+      from : (u : List T) (y : A) → Folded f (Most n (Separated kind k L)) u y → Given L (λ x. Of (λ (z : A × ℕ). z.0) (Loop (join_step k n f L) (x, 1))) u y
+      from u y m =
+          let b : length (m.0 ∷ m.1) ≤ n = m.2.1 in
+          let w : (d : ℕ) × Turns (join_step k n f L) (length m.1) (m.0, 1) m.2.0.1 (fold_left f m.0 m.1, d) = join_back k n f L m.0 1 m.1 m.2.0.1 m.2.0.4 (omega (arith, b)) in
+          (m.2.0.0, m.2.0.1, m.0, m.2.0.2, m.2.0.3, ((fold_left f m.0 m.1, w.0), (length m.1, w.1), m.3))
+      same : (u : List T) → read_folded_most kind k n s.first c f a u ≡ read_given a (λ x. read_joined_most kind k n s.first c f a 1 x) u
       same u = refl
