@@ -87,7 +87,7 @@ module _ {T : Type 0} (kind : T → ℕ) where
   unfolding read_others read_push
   read_others_stops k item xs t u r c e f =
       read_loop_stops kind (k ∷ []) (λ ys. read_skip kind k (read_push item ys)) xs (t ∷ u) r c (starts_here k t u e)
-        (read_skip_took kind k (read_push item xs) t u e ∙ read_of_stops _ item u r c f)
+      (read_skip_took kind k (read_push item xs) t u e ∙ read_of_stops _ item u r c f)
 
   pub read_others_more : {A : Type 0} (k : ℕ) (item : List T → Reading T A) (xs : List A) (t : T) (u r : List T) (x : A) →
       kind t ≡ k → item u ≡ took x r → length r < suc (length u) →
@@ -95,7 +95,7 @@ module _ {T : Type 0} (kind : T → ℕ) where
   unfolding read_others read_push
   read_others_more k item xs t u r x e f l =
       read_loop_more kind (k ∷ []) (λ ys. read_skip kind k (read_push item ys)) xs (xs ++ x ∷ []) (t ∷ u) r (starts_here k t u e)
-        (read_skip_took kind k (read_push item xs) t u e ∙ read_of_took _ item u r x f) l
+      (read_skip_took kind k (read_push item xs) t u e ∙ read_of_took _ item u r x f) l
 
   pub read_separated_stops : {A : Type 0} (k : ℕ) (item : List T → Reading T A) (u r : List T) (c : Cause) →
       item u ≡ stops c r → read_separated kind k item u ≡ stops c r
@@ -117,7 +117,7 @@ module _ {T : Type 0} (kind : T → ℕ) where
   unfolding read_others_most
   others_most_stops k n first cause item xs t u r c e f =
       read_loop_stops kind (k ∷ []) (λ ys. read_skip kind k (read_push_most kind n first cause item ys)) xs (t ∷ u) r c (starts_here k t u e)
-        (read_skip_took kind k (read_push_most kind n first cause item xs) t u e ∙ f)
+      (read_skip_took kind k (read_push_most kind n first cause item xs) t u e ∙ f)
 
   pub read_others_most_stops : {A : Type 0} (k n : ℕ) (first : List ℕ) (cause : Cause) (item : List T → Reading T A) (xs : List A) (t : T) (u r : List T) (c : Cause) →
       kind t ≡ k → length xs < n → item u ≡ stops c r → read_others_most kind k n first cause item xs (t ∷ u) ≡ stops c r
@@ -137,7 +137,7 @@ module _ {T : Type 0} (kind : T → ℕ) where
   unfolding read_others_most
   read_others_most_more k n first cause item xs t u r x e l f h =
       read_loop_more kind (k ∷ []) (λ ys. read_skip kind k (read_push_most kind n first cause item ys)) xs (xs ++ x ∷ []) (t ∷ u) r (starts_here k t u e)
-        (read_skip_took kind k (read_push_most kind n first cause item xs) t u e ∙ push_took n first cause item xs u r x l f) h
+      (read_skip_took kind k (read_push_most kind n first cause item xs) t u e ∙ push_took n first cause item xs u r x l f) h
 
   pub read_separated_most_stops : {A : Type 0} (k n : ℕ) (first : List ℕ) (cause : Cause) (item : List T → Reading T A) (u r : List T) (c : Cause) →
       item u ≡ stops c r → read_separated_most kind k n first cause item u ≡ stops c r
@@ -187,7 +187,7 @@ module _ {T : Type 0} (kind : T → ℕ) where
   unfolding read_joined_most
   joined_most_stops k n first cause f item count x t u r c e g =
       read_of_stops _ _ (t ∷ u) r c (read_loop_stops kind (k ∷ []) (λ z. read_skip kind k (read_join_most kind n first cause f item z)) (x, count) (t ∷ u) r c (starts_here k t u e)
-        (read_skip_took kind k (read_join_most kind n first cause f item (x, count)) t u e ∙ g))
+      (read_skip_took kind k (read_join_most kind n first cause f item (x, count)) t u e ∙ g))
 
   pub read_joined_most_end : {A : Type 0} (k n : ℕ) (first : List ℕ) (cause : Cause) (f : A → A → A) (item : List T → Reading T A) (count : ℕ) (x : A) (u : List T) →
       starts kind (k ∷ []) u ≡ false → read_joined_most kind k n first cause f item count x u ≡ took x u
@@ -218,7 +218,7 @@ module _ {T : Type 0} (kind : T → ℕ) where
   unfolding read_joined_most read_of
   read_joined_most_more k n first cause f item count x t u r y e l g h =
       ap (λ o. on_took o (λ z m. took z.0 m)) (read_loop_more kind (k ∷ []) (λ z. read_skip kind k (read_join_most kind n first cause f item z)) (x, count) (f x y, count + 1) (t ∷ u) r (starts_here k t u e)
-        (read_skip_took kind k (read_join_most kind n first cause f item (x, count)) t u e ∙ join_took n first cause f item count x u r y l g) h)
+      (read_skip_took kind k (read_join_most kind n first cause f item (x, count)) t u e ∙ join_took n first cause f item count x u r y l g) h)
 
   pub read_folded_most_stops : {A : Type 0} (k n : ℕ) (first : List ℕ) (cause : Cause) (f : A → A → A) (item : List T → Reading T A) (u r : List T) (c : Cause) →
       item u ≡ stops c r → read_folded_most kind k n first cause f item u ≡ stops c r

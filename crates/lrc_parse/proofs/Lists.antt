@@ -76,14 +76,16 @@ module _ {T : Type 0} (kind : T → ℕ) where
   unfolding read_many read_joined read_push
   exact_many {A} s L a n d e =
       exact_as kind (shape_many s) (Loop (λ ys. Of (pushed ys) L) []) (Many L) (read_joined kind pushed s.first a []) (read_many kind s.first a [])
-        (exact_joined pushed s L a n d e []) to from same
+      (exact_joined pushed s L a n d e []) to from same
     where
       to : (u : List T) (zs : List A) → Loop (λ ys. Of (pushed ys) L) [] u zs → Many L u zs
       to u zs m =
           let w : (ys : List A) × Many L u ys × (zs ≡ fold_left pushed [] ys) = turns_fold pushed L m.0 [] u zs m.1 in
           subst (λ v. Many L u v) (sym (w.2 ∙ fold_pushed [] w.0)) w.1
+
       from : (u : List T) (zs : List A) → Many L u zs → Loop (λ ys. Of (pushed ys) L) [] u zs
       from u zs m = (length zs, subst (λ v. Turns (λ ys. Of (pushed ys) L) (length zs) [] u v) (fold_pushed [] zs) (fold_turns pushed L [] zs u m))
+
       same : (u : List T) → read_many kind s.first a [] u ≡ read_joined kind pushed s.first a [] u
       same u = refl
 
@@ -93,18 +95,21 @@ module _ {T : Type 0} (kind : T → ℕ) where
   unfolding read_push_most read_push read_most
   exact_most {A} n s c L a z d e =
       exact_as kind (shape_many s) (Loop (push_step n L) []) (Most n (Many L)) (read_loop kind s.first (read_push_most kind n s.first c a) []) (read_most kind n s.first c a [])
-        (exact_loop kind s (push_step n L) (read_push_most kind n s.first c a) z d each []) to from same
+      (exact_loop kind s (push_step n L) (read_push_most kind n s.first c a) z d each []) to from same
     where
       each : (ys : List A) → Exact kind s ((push_step n L) ys) (read_push_most kind n s.first c a ys)
       each ys = exact_within kind (ltb (length ys) n) s c (Of (pushed ys) L) (read_of (pushed ys) a) (exact_of kind (pushed ys) s L a e)
+
       to : (u : List T) (zs : List A) → Loop (push_step n L) [] u zs → Most n (Many L) u zs
       to u zs m =
           let w : (ys : List A) × Many L u ys × (zs ≡ fold_left pushed [] ys) × (length zs ≤ n) = turns_most n L m.0 [] u zs m.1 (omega arith) in
           (subst (λ v. Many L u v) (sym (w.2 ∙ fold_pushed [] w.0)) w.1, w.3)
+
       from : (u : List T) (zs : List A) → Most n (Many L) u zs → Loop (push_step n L) [] u zs
       from u zs m =
           let h : length zs ≤ n = m.1 in
           (length zs, subst (λ v. Turns (λ ys. Within (ltb (length ys) n) (Of (pushed ys) L)) (length zs) [] u v) (fold_pushed [] zs) (most_turns n L [] zs u m.0 (omega (arith, h))))
+
       same : (u : List T) → read_most kind n s.first c a [] u ≡ read_loop kind s.first (read_push_most kind n s.first c a) [] u
       same u = refl
 
@@ -114,15 +119,17 @@ module _ {T : Type 0} (kind : T → ℕ) where
   unfolding read_chain read_given
   exact_chain {A} {X} f s t L M a b z d h e g =
       exact_as kind (shape_then s (shape_many t)) (Given L (λ x. Loop (λ y. Of (f y) M) x)) (Chain f L M) (read_given a (λ x. read_joined kind f t.first b x)) (read_chain kind f a t.first b)
-        (exact_given kind s (shape_many t) L (λ x. Loop (λ y. Of (f y) M) x) a (λ x. read_joined kind f t.first b x) h e (exact_joined f t M b z d g)) to from same
+      (exact_given kind s (shape_many t) L (λ x. Loop (λ y. Of (f y) M) x) a (λ x. read_joined kind f t.first b x) h e (exact_joined f t M b z d g)) to from same
     where
       to : (u : List T) (y : A) → Given L (λ x. Loop (λ y. Of (f y) M) x) u y → Chain f L M u y
       to u y m =
           let w : (xs : List X) × Many M m.1 xs × (y ≡ fold_left f m.2 xs) = turns_fold f M m.5.0 m.2 m.1 y m.5.1 in
           (m.0, m.1, m.2, w.0, m.3, m.4, w.1, w.2)
+
       from : (u : List T) (y : A) → Chain f L M u y → Given L (λ x. Loop (λ y. Of (f y) M) x) u y
       from u y m =
           (m.0, m.1, m.2, m.4, m.5, (length m.3, subst (λ v. Turns (λ z. Of (f z) M) (length m.3) m.2 m.1 v) (sym m.7) (fold_turns f M m.2 m.3 m.1 m.6)))
+
       same : (u : List T) → read_chain kind f a t.first b u ≡ read_given a (λ x. read_joined kind f t.first b x) u
       same u = refl
 
@@ -132,30 +139,35 @@ module _ {T : Type 0} (kind : T → ℕ) where
   unfolding read_others read_push read_separated read_given
   exact_separated {A} k s L a d e =
       exact_as kind (shape_then s (shape_many (shape_skip k s))) (Given L (λ x. Loop (λ ys. Skip kind k (Of (pushed ys) L)) (x ∷ []))) (Separated kind k L)
-        (read_given a (λ x. read_others kind k a (x ∷ []))) (read_separated kind k a)
-        (exact_given kind s (shape_many (shape_skip k s)) L (λ x. Loop (λ ys. Skip kind k (Of (pushed ys) L)) (x ∷ [])) a (λ x. read_others kind k a (x ∷ [])) d e others) to from same
+      (read_given a (λ x. read_others kind k a (x ∷ []))) (read_separated kind k a)
+      (exact_given kind s (shape_many (shape_skip k s)) L (λ x. Loop (λ ys. Skip kind k (Of (pushed ys) L)) (x ∷ [])) a (λ x. read_others kind k a (x ∷ [])) d e others) to from same
     where
       others : (x : A) → Exact kind (shape_many (shape_skip k s)) (Loop (λ ys. Skip kind k (Of (pushed ys) L)) (x ∷ [])) (read_others kind k a (x ∷ []))
       others x = exact_loop kind (shape_skip k s) (λ ys. Skip kind k (Of (pushed ys) L)) (λ ys. read_skip kind k (read_of (pushed ys) a)) refl d
           (λ ys. exact_skip kind k s (Of (pushed ys) L) (read_of (pushed ys) a) (exact_of kind (pushed ys) s L a e)) (x ∷ [])
+
       out : (j : ℕ) (xs : List A) (u : List T) (zs : List A) → Turns (λ ys. Skip kind k (Of (pushed ys) L)) j xs u zs →
           (ys : List A) × Many (Skip kind k L) u ys × (zs ≡ fold_left pushed xs ys)
       out zero xs u zs m = ([], m.0, m.1)
       out (suc j) xs u zs m =
           let w : (ys : List A) × Many (Skip kind k L) m.1 ys × (zs ≡ fold_left pushed m.2 ys) = out j m.2 m.1 zs m.5 in
           (m.4.4.0 ∷ w.0, (m.0, m.1, m.3, (m.4.0, m.4.1, m.4.2, m.4.3, m.4.4.1), w.1), w.2 ∙ ap (λ z. fold_left pushed z w.0) m.4.4.2)
+
       back : (xs ys : List A) (u : List T) → Many (Skip kind k L) u ys → Turns (λ ys. Skip kind k (Of (pushed ys) L)) (length ys) xs u (fold_left pushed xs ys)
       back xs [] u m = (m, refl)
       back xs (y ∷ ys) u m =
           (m.0, m.1, pushed xs y, m.2, (m.3.0, m.3.1, m.3.2, m.3.3, (y, m.3.4, refl)), back (pushed xs y) ys m.1 m.4)
+
       to : (u : List T) (zs : List A) → Given L (λ x. Loop (λ ys. Skip kind k (Of (pushed ys) L)) (x ∷ [])) u zs → Separated kind k L u zs
       to u zs m =
           let w : (ys : List A) × Many (Skip kind k L) m.1 ys × (zs ≡ fold_left pushed (m.2 ∷ []) ys) = out m.5.0 (m.2 ∷ []) m.1 zs m.5.1 in
           subst (λ v. Separated kind k L u v) (sym (w.2 ∙ fold_pushed (m.2 ∷ []) w.0)) (m.0, m.1, m.3, m.4, w.1)
+
       from : (u : List T) (zs : List A) → Separated kind k L u zs → Given L (λ x. Loop (λ ys. Skip kind k (Of (pushed ys) L)) (x ∷ [])) u zs
       from u [] m = absurd m
       from u (x ∷ xs) m =
           (m.0, m.1, x, m.2, m.3, (length xs, subst (λ v. Turns (λ ys. Skip kind k (Of (pushed ys) L)) (length xs) (x ∷ []) m.1 v) (fold_pushed (x ∷ []) xs) (back (x ∷ []) xs m.1 m.4)))
+
       same : (u : List T) → read_separated kind k a u ≡ read_given a (λ x. read_others kind k a (x ∷ [])) u
       same u = refl
 
@@ -165,13 +177,14 @@ module _ {T : Type 0} (kind : T → ℕ) where
   unfolding read_others_most read_push_most read_push read_separated_most read_given
   exact_separated_most {A} k n s c L a one d e =
       exact_as kind (shape_then s (shape_many (shape_skip k s))) (Given L (λ x. Loop (other_step k n L) (x ∷ []))) (Most n (Separated kind k L))
-        (read_given a (λ x. read_others_most kind k n s.first c a (x ∷ []))) (read_separated_most kind k n s.first c a)
-        (exact_given kind s (shape_many (shape_skip k s)) L (λ x. Loop (other_step k n L) (x ∷ [])) a (λ x. read_others_most kind k n s.first c a (x ∷ [])) d e others) to from same
+      (read_given a (λ x. read_others_most kind k n s.first c a (x ∷ []))) (read_separated_most kind k n s.first c a)
+      (exact_given kind s (shape_many (shape_skip k s)) L (λ x. Loop (other_step k n L) (x ∷ [])) a (λ x. read_others_most kind k n s.first c a (x ∷ [])) d e others) to from same
     where
       others : (x : A) → Exact kind (shape_many (shape_skip k s)) (Loop (other_step k n L) (x ∷ [])) (read_others_most kind k n s.first c a (x ∷ []))
       others x = exact_loop kind (shape_skip k s) (other_step k n L) (λ ys. read_skip kind k (read_within kind (ltb (length ys) n) s.first c (read_of (pushed ys) a))) refl d
           (λ ys. exact_skip kind k s (Within (ltb (length ys) n) (Of (pushed ys) L)) (read_within kind (ltb (length ys) n) s.first c (read_of (pushed ys) a))
-            (exact_within kind (ltb (length ys) n) s c (Of (pushed ys) L) (read_of (pushed ys) a) (exact_of kind (pushed ys) s L a e))) (x ∷ [])
+          (exact_within kind (ltb (length ys) n) s c (Of (pushed ys) L) (read_of (pushed ys) a) (exact_of kind (pushed ys) s L a e))) (x ∷ [])
+
       out : (j : ℕ) (xs : List A) (u : List T) (zs : List A) → Turns (other_step k n L) j xs u zs → length xs ≤ n →
           (ys : List A) × Many (Skip kind k L) u ys × (zs ≡ fold_left pushed xs ys) × (length zs ≤ n)
       out zero xs u zs m h = ([], m.0, m.1, subst (λ v. length v ≤ n) (sym m.1) h)
@@ -181,20 +194,24 @@ module _ {T : Type 0} (kind : T → ℕ) where
           let f : length m.2 ≡ length (xs ++ m.4.4.1.0 ∷ []) = ap length m.4.4.1.2 in
           let w : (ys : List A) × Many (Skip kind k L) m.1 ys × (zs ≡ fold_left pushed m.2 ys) × (length zs ≤ n) = out j m.2 m.1 zs m.5 (omega (arith, lt, e, f)) in
           (m.4.4.1.0 ∷ w.0, (m.0, m.1, m.3, (m.4.0, m.4.1, m.4.2, m.4.3, m.4.4.1.1), w.1), w.2 ∙ ap (λ z. fold_left pushed z w.0) m.4.4.1.2, w.3)
+
       back : (xs ys : List A) (u : List T) → Many (Skip kind k L) u ys → length xs + length ys ≤ n → Turns (other_step k n L) (length ys) xs u (fold_left pushed xs ys)
       back xs [] u m h = (m, refl)
       back xs (y ∷ ys) u m h =
           let e : length (xs ++ y ∷ []) ≡ suc (length xs) = length_pushed xs y in
           (m.0, m.1, pushed xs y, m.2, (m.3.0, m.3.1, m.3.2, m.3.3, (lt-ltb (length xs) n (omega (arith, h)), (y, m.3.4, refl))), back (pushed xs y) ys m.1 m.4 (omega (arith, h, e)))
+
       to : (u : List T) (zs : List A) → Given L (λ x. Loop (other_step k n L) (x ∷ [])) u zs → Most n (Separated kind k L) u zs
       to u zs m =
           let w : (ys : List A) × Many (Skip kind k L) m.1 ys × (zs ≡ fold_left pushed (m.2 ∷ []) ys) × (length zs ≤ n) = out m.5.0 (m.2 ∷ []) m.1 zs m.5.1 (omega (arith, one)) in
           (subst (λ v. Separated kind k L u v) (sym (w.2 ∙ fold_pushed (m.2 ∷ []) w.0)) (m.0, m.1, m.3, m.4, w.1), w.3)
+
       from : (u : List T) (zs : List A) → Most n (Separated kind k L) u zs → Given L (λ x. Loop (other_step k n L) (x ∷ [])) u zs
       from u [] m = absurd m.0
       from u (x ∷ xs) m =
           let h : length (x ∷ xs) ≤ n = m.1 in
           (m.0.0, m.0.1, x, m.0.2, m.0.3, (length xs, subst (λ v. Turns (other_step k n L) (length xs) (x ∷ []) m.0.1 v) (fold_pushed (x ∷ []) xs) (back (x ∷ []) xs m.0.1 m.0.4 (omega (arith, h)))))
+
       same : (u : List T) → read_separated_most kind k n s.first c a u ≡ read_given a (λ x. read_others_most kind k n s.first c a (x ∷ [])) u
       same u = refl
 
@@ -228,23 +245,26 @@ module _ {T : Type 0} (kind : T → ℕ) where
   unfolding read_joined_most read_join_most read_folded_most read_given
   exact_folded_most {A} k n s c f L a one d e =
       exact_as kind (shape_then s (shape_many (shape_skip k s))) (Given L (λ x. Of (λ (z : A × ℕ). z.0) (Loop (join_step k n f L) (x, 1)))) (Folded f (Most n (Separated kind k L)))
-        (read_given a (λ x. read_joined_most kind k n s.first c f a 1 x)) (read_folded_most kind k n s.first c f a)
-        (exact_given kind s (shape_many (shape_skip k s)) L (λ x. Of (λ (z : A × ℕ). z.0) (Loop (join_step k n f L) (x, 1))) a (λ x. read_joined_most kind k n s.first c f a 1 x) d e joined) to from same
+      (read_given a (λ x. read_joined_most kind k n s.first c f a 1 x)) (read_folded_most kind k n s.first c f a)
+      (exact_given kind s (shape_many (shape_skip k s)) L (λ x. Of (λ (z : A × ℕ). z.0) (Loop (join_step k n f L) (x, 1))) a (λ x. read_joined_most kind k n s.first c f a 1 x) d e joined) to from same
     where
       joined : (x : A) → Exact kind (shape_many (shape_skip k s)) (Of (λ (z : A × ℕ). z.0) (Loop (join_step k n f L) (x, 1))) (read_joined_most kind k n s.first c f a 1 x)
       joined x = exact_of kind (λ (z : A × ℕ). z.0) (shape_many (shape_skip k s)) (Loop (join_step k n f L) (x, 1)) _
           (exact_loop kind (shape_skip k s) (join_step k n f L) (λ z. read_skip kind k (read_within kind (ltb z.1 n) s.first c (read_of (λ y. (f z.0 y, z.1 + 1)) a))) refl d
-            (λ z. exact_skip kind k s (Within (ltb z.1 n) (Of (λ y. (f z.0 y, z.1 + 1)) L)) (read_within kind (ltb z.1 n) s.first c (read_of (λ y. (f z.0 y, z.1 + 1)) a))
-              (exact_within kind (ltb z.1 n) s c (Of (λ y. (f z.0 y, z.1 + 1)) L) (read_of (λ y. (f z.0 y, z.1 + 1)) a) (exact_of kind (λ y. (f z.0 y, z.1 + 1)) s L a e))) (x, 1))
+          (λ z. exact_skip kind k s (Within (ltb z.1 n) (Of (λ y. (f z.0 y, z.1 + 1)) L)) (read_within kind (ltb z.1 n) s.first c (read_of (λ y. (f z.0 y, z.1 + 1)) a))
+          (exact_within kind (ltb z.1 n) s c (Of (λ y. (f z.0 y, z.1 + 1)) L) (read_of (λ y. (f z.0 y, z.1 + 1)) a) (exact_of kind (λ y. (f z.0 y, z.1 + 1)) s L a e))) (x, 1))
+
       to : (u : List T) (y : A) → Given L (λ x. Of (λ (z : A × ℕ). z.0) (Loop (join_step k n f L) (x, 1))) u y → Folded f (Most n (Separated kind k L)) u y
       to u y m =
           let w : (ys : List A) × Many (Skip kind k L) m.1 ys × (m.5.0.0 ≡ fold_left f m.2 ys) × (1 + length ys ≤ n) = join_out k n f L m.5.1.0 m.2 1 m.1 m.5.0 m.5.1.1 one in
           let b : 1 + length w.0 ≤ n = w.3 in
           (m.2, w.0, ((m.0, m.1, m.3, m.4, w.1), omega (arith, b)), m.5.2 ∙ w.2)
+
       from : (u : List T) (y : A) → Folded f (Most n (Separated kind k L)) u y → Given L (λ x. Of (λ (z : A × ℕ). z.0) (Loop (join_step k n f L) (x, 1))) u y
       from u y m =
           let b : length (m.0 ∷ m.1) ≤ n = m.2.1 in
           let w : (d : ℕ) × Turns (join_step k n f L) (length m.1) (m.0, 1) m.2.0.1 (fold_left f m.0 m.1, d) = join_back k n f L m.0 1 m.1 m.2.0.1 m.2.0.4 (omega (arith, b)) in
           (m.2.0.0, m.2.0.1, m.0, m.2.0.2, m.2.0.3, ((fold_left f m.0 m.1, w.0), (length m.1, w.1), m.3))
+
       same : (u : List T) → read_folded_most kind k n s.first c f a u ≡ read_given a (λ x. read_joined_most kind k n s.first c f a 1 x) u
       same u = refl

@@ -45,6 +45,7 @@ apart (j ∷ js) ks k d h = go (has ks j) refl d (λ e. apart js ks k e h)
     here : (b : Bool) → eqb j k ≡ b → has ks j ≡ false → has js k ≡ false → cond b true (has js k) ≡ false
     here true e f ih = absurd (true_not_false _ h (ap (has ks) (sym (eqb-true j k e)) ∙ f))
     here false e f ih = ih
+
     go : (b : Bool) → has ks j ≡ b → cond b false (disjoint js ks) ≡ true → (disjoint js ks ≡ true → has js k ≡ false) → has (j ∷ js) k ≡ false
     go true e d ih = absurd (true_not_false _ d refl)
     go false e d ih = here (eqb j k) refl e (ih d)
