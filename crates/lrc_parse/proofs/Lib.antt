@@ -6,3 +6,4 @@ pub mod Loops
 pub mod Lists
 pub mod ListSteps
 pub mod Whole
+pub mod Places

@@ -2,3 +2,4 @@ pub mod Kinds
 pub mod Language
 pub mod Reading
 pub mod Exact
+pub mod Faults
