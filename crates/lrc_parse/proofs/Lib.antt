@@ -7,3 +7,4 @@ pub mod Lists
 pub mod ListSteps
 pub mod Whole
 pub mod Places
+pub mod LoopPlaces

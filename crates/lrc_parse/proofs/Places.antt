@@ -63,7 +63,7 @@ module _ {T : Type 0} (kind : T → ℕ) where
 
 module _ {I T : Type 0} (kind : T → ℕ) (le : I → I → Type 0) (wide : Widening le) where
   -- where a stop stays there are limits as wide
-  stays_wide : (c : Cause) (i j : I) → Stays le c i j → le i j
+  pub stays_wide : (c : Cause) (i j : I) → Stays le c i j → le i j
   stays_wide expected i j h = h
   stays_wide nested i j h = subst (le i) h (wide.same i)
   stays_wide (limit n) i j h = subst (le i) h (wide.same i)
