@@ -1,6 +1,7 @@
 pub mod Sets
 pub mod Steps
 pub mod Back
+pub mod Same
 pub mod Parts
 pub mod Loops
 pub mod Lists

@@ -8,6 +8,7 @@ use Rattle.lrc_parse.specs.Reading.{Cause, expected, Reading, took, stops, on_to
 use Rattle.lrc_parse.specs.Exact.{Shape, Exact, shape_one, shape_empty, shape_then, shape_either, shape_skip, shape_ends}
 use Rattle.lrc_parse.proofs.Sets.{true_not_false, has_left, has_right, apart, clear_left, clear_right}
 use Rattle.lrc_parse.proofs.Steps.{read_one_took, read_of_took, read_given_took, read_fixed_took, read_skip_took, read_either_first, read_either_second, read_within_room}
+use Rattle.lrc_parse.proofs.Same.{then_parts, then_to, then_from, then_same, ends_parts, ends_to, ends_from, ends_same}
 use Rattle.lrc_parse.proofs.Back.{same_value, same_rest, stops_not_took, on_took_back, token_value_back, cond_back, cond_cases, past_token_back}
 
 -- one token at the head of a list that has just one
@@ -173,48 +174,18 @@ module _ {T : Type 0} (kind : T → ℕ) where
 
   pub exact_then : {A B : Type 0} (s t : Shape) (L : Lang T A) (M : Lang T B) (a : List T → Reading T A) (b : List T → Reading T B) →
       disjoint s.more t.first ≡ true → Exact kind s L a → Exact kind t M b → Exact kind (shape_then s t) (Then L M) (read_then a b)
-  unfolding read_then read_given read_of
-  exact_then {A} {B} s t L M a b d e f =
-      exact_as (shape_then s t) (Given L (λ x. Of (λ y. (x, y)) M)) (Then L M) _ (read_then a b)
-      (exact_given s t L (λ x. Of (λ y. (x, y)) M) a (λ x. read_of (λ y. (x, y)) b) d e (λ x. exact_of (λ y. (x, y)) t M b f)) to from same
-    where
-      to : (u : List T) (z : A × B) → Given L (λ x. Of (λ y. (x, y)) M) u z → Then L M u z
-      to u z m = subst (λ v. Then L M u v) (sym m.5.2) (m.0, m.1, m.3, m.4, m.5.1)
-
-      from : (u : List T) (z : A × B) → Then L M u z → Given L (λ x. Of (λ y. (x, y)) M) u z
-      from u z m = (m.0, m.1, z.0, m.2, m.3, (z.1, m.4, refl))
-
-      same : (u : List T) → read_then a b u ≡ read_given a (λ x. read_of (λ y. (x, y)) b) u
-      same u = refl
+  exact_then s t L M a b d e f =
+      exact_as (shape_then s t) (then_parts L M) (Then L M) _ (read_then a b)
+        (exact_given s t L (λ x. Of (λ y. (x, y)) M) a (λ x. read_of (λ y. (x, y)) b) d e (λ x. exact_of (λ y. (x, y)) t M b f))
+        (then_to L M) (then_from L M) (then_same a b)
 
   pub exact_ends : {A : Type 0} (s : Shape) (L : Lang T A) (a : List T → Reading T A) (k : ℕ) →
       disjoint s.more (k ∷ []) ≡ true → Exact kind s L a → Exact kind (shape_ends s k) (Ends kind L k) (read_ends kind a k)
-  unfolding read_of read_fixed read_ends read_given
-  exact_ends {A} s L a k d e =
-      exact_as (shape_ends s k) (Given L (λ x. Of (λ _. x) (Fixed kind k))) (Ends kind L k) _ (read_ends kind a k)
-      (exact_given s (shape_one (k ∷ [])) L (λ x. Of (λ _. x) (Fixed kind k)) a (λ x. read_of (λ _. x) (read_fixed kind k)) d e
-      (λ x. exact_of (λ _. x) (shape_one (k ∷ [])) (Fixed kind k) (read_fixed kind k) (exact_fixed k))) to from same
-    where
-      to : (u : List T) (z : A) → Given L (λ x. Of (λ _. x) (Fixed kind k)) u z → Ends kind L k u z
-      to u z m = (m.0, m.5.1.0, m.3 ∙ ap (λ w. m.0 ++ w) m.5.1.1, subst (λ v. L m.0 v) (sym m.5.2) m.4, m.5.1.2)
-
-      from : (u : List T) (z : A) → Ends kind L k u z → Given L (λ x. Of (λ _. x) (Fixed kind k)) u z
-      from u z m = (m.0, m.1 ∷ [], z, m.2, m.3, (tt, (m.1, refl, m.4), refl))
-
-      behind : (x : A) (r : List T) → past_token kind k (λ s. took x s) r ≡ read_of (λ _. x) (read_fixed kind k) r
-      behind x [] = refl
-      behind x (t ∷ r) = go (eqb (kind t) k)
-        where
-          go : (b : Bool) → cond b (took x r) (stops expected (t ∷ r)) ≡ on_took (cond b (let o : Unit {0} = tt in took o r) (stops expected (t ∷ r))) (λ _ m. took x m)
-          go true = refl
-          go false = refl
-
-      under : (o : Reading T A) → on_took o (λ x r. past_token kind k (λ s. took x s) r) ≡ on_took o (λ x. read_of (λ _. x) (read_fixed kind k))
-      under (took x r) = behind x r
-      under (stops c r) = refl
-
-      same : (u : List T) → read_ends kind a k u ≡ read_given a (λ x. read_of (λ _. x) (read_fixed kind k)) u
-      same u = under (a u)
+  exact_ends s L a k d e =
+      exact_as (shape_ends s k) (ends_parts kind L k) (Ends kind L k) _ (read_ends kind a k)
+        (exact_given s (shape_one (k ∷ [])) L (λ x. Of (λ _. x) (Fixed kind k)) a (λ x. read_of (λ _. x) (read_fixed kind k)) d e
+          (λ x. exact_of (λ _. x) (shape_one (k ∷ [])) (Fixed kind k) (read_fixed kind k) (exact_fixed k)))
+        (ends_to kind L k) (ends_from kind L k) (ends_same kind a k)
 
   pub exact_either : {A : Type 0} (s t : Shape) (L M : Lang T A) (a b : List T → Reading T A) →
       disjoint s.first t.first ≡ true → s.empty ≡ false → Exact kind s L a → Exact kind t M b →
