@@ -7,5 +7,7 @@ pub mod Loops
 pub mod Lists
 pub mod ListSteps
 pub mod Whole
+pub mod Grow
+pub mod TameRich
 pub mod Places
 pub mod LoopPlaces

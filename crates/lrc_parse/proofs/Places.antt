@@ -52,34 +52,12 @@ module _ {T : Type 0} (kind : T → ℕ) where
   starts_next ks [] w e = ap (starts kind ks) (next_end w e)
   starts_next ks (t ∷ u) w e = let v : (q : List T) × (w ≡ t ∷ q) = next_token w t e in ap (starts kind ks) v.1
 
-  has_cases : (js ks : List ℕ) (k : ℕ) → has (js ++ ks) k ≡ true → (has js k ≡ true) ⊎ (has ks k ≡ true)
-  has_cases [] ks k h = inr h
-  has_cases (j ∷ js) ks k h = go (eqb j k) h (has_cases js ks k)
-    where
-      go : (b : Bool) → cond b true (has (js ++ ks) k) ≡ true → (has (js ++ ks) k ≡ true → (has js k ≡ true) ⊎ (has ks k ≡ true)) →
-          (cond b true (has js k) ≡ true) ⊎ (has ks k ≡ true)
-      go true h f = inl refl
-      go false h f = f h
-
 module _ {I T : Type 0} (kind : T → ℕ) (le : I → I → Type 0) (wide : Widening le) where
   -- where a stop stays there are limits as wide
   pub stays_wide : (c : Cause) (i j : I) → Stays le c i j → le i j
   stays_wide expected i j h = h
   stays_wide nested i j h = subst (le i) h (wide.same i)
   stays_wide (limit n) i j h = subst (le i) h (wide.same i)
-
-  pub tame_as : {A : Type 0} (s : Shape) (a b : List T → Reading T A) → Tame kind s a → ((u : List T) → b u ≡ a u) → Tame kind s b
-  tame_as s a b e same = record {
-    misses = λ n u h. same u ∙ e.misses n u h;
-    passes = λ n u h. let w : _ = e.passes n u h in (w.0, same u ∙ w.1)
-  }
-
-  pub rich_as : {A : Type 0} (s : Shape) (L M : I → Lang T A) → Rich kind s L → ((i : I) (u : List T) (x : A) → L i u x → M i u x) → Rich kind s M
-  rich_as s L M e to = record {
-    some = (e.some.0, e.some.1, e.some.2, to _ _ _ e.some.3);
-    nothing = λ n. let w : _ = e.nothing n in (w.0, w.1, to _ _ _ w.2);
-    opens = λ t h. let w : _ = e.opens t h in (w.0, w.1, w.2, to _ _ _ w.3)
-  }
 
   pub placed_as : {A : Type 0} (L M : I → Lang T A) (a b : I → List T → Reading T A) (i : I) → Placed le L a i →
       ((i : I) (u : List T) (x : A) → L i u x → M i u x) → ((i : I) (u : List T) → b i u ≡ a i u) → Placed le M b i
@@ -89,45 +67,12 @@ module _ {I T : Type 0} (kind : T → ℕ) (le : I → I → Type 0) (wide : Wid
         (w.0, w.1, (w.2.0, w.2.1, w.2.2, to _ _ _ w.2.3), (λ j v l n. same j _ ∙ w.3 j v l n), w.4)
   }
 
-  pub tame_empty : {A : Type 0} (a : A) → Tame kind shape_empty (read_empty {T = T} a)
-  unfolding read_empty
-  tame_empty a = record { misses = λ n. absurd (true_not_false true refl n); passes = λ n u h. (a, refl) }
-
-  pub rich_empty : {A : Type 0} (a : A) → I → Rich {I = I} kind shape_empty (λ _. Empty a)
-  rich_empty a i = record {
-    some = (i, [], a, (refl, refl));
-    nothing = λ n. (i, a, (refl, refl));
-    opens = λ t h. absurd (true_not_false false h refl)
-  }
-
   pub placed_empty : {A : Type 0} (a : A) (i : I) → Placed le (λ _. Empty a) (λ _. read_empty {T = T} a) i
   unfolding read_empty
   placed_empty a i = record {
     takes = λ u x r h. ([], same_rest _ _ _ _ h, (refl, sym (same_value _ _ _ _ h)), (λ j w l n. ap (λ y. took y w) (same_value _ _ _ _ h)));
     ends = λ c u r h. absurd (stops_not_took c a r u (sym h))
   }
-
-  tame_one : {A : Type 0} (ks : List ℕ) (value : T → Option A) → ((t : T) (x : A) → value t ≡ Some x → has ks (kind t) ≡ true) →
-      Tame kind (shape_one ks) (read_one value)
-  tame_one {A} ks value among = record { misses = λ n. misses; passes = λ n. absurd (true_not_false false n refl) }
-    where
-      lacks : (o : Option A) (t : T) (r : List T) → value t ≡ o → has ks (kind t) ≡ false → read_one value (t ∷ r) ≡ stops expected (t ∷ r)
-      lacks None t r e h = read_one_stops value t r e
-      lacks (Some x) t r e h = absurd (true_not_false _ (among t x e) h)
-      misses : (u : List T) → starts kind ks u ≡ false → read_one value u ≡ stops expected u
-      misses [] h = read_one_end value
-      misses (t ∷ r) h = lacks (value t) t r refl h
-
-  rich_one : {A : Type 0} (ks : List ℕ) (value : T → Option A) → I → ((t : T) → has ks (kind t) ≡ true → (x : A) × (value t ≡ Some x)) →
-      (t : T) → has ks (kind t) ≡ true → Rich {I = I} kind (shape_one ks) (λ _. One value)
-  rich_one {A} ks value i has_value t h = record {
-    some = (let w : _ = opens t h in (i, w.0, w.1, w.2));
-    nothing = λ n. absurd (true_not_false false n refl);
-    opens = λ s g. let w : (x : A) × (value s ≡ Some x) = has_value s g in (i, [], w.0, (s, refl, w.1))
-  }
-    where
-      opens : (s : T) → has ks (kind s) ≡ true → (q : List T) × (x : A) × One value q x
-      opens s g = let w : (x : A) × (value s ≡ Some x) = has_value s g in (s ∷ [], w.0, (s, refl, w.1))
 
   -- an end for one cause at some tokens is that for the same cause at the same tokens
   ended_same : {A : Type 0} (L : I → Lang T A) (read : I → List T → Reading T A) (i : I) (u : List T) (c d : Cause) (r s : List T) →
@@ -140,7 +85,7 @@ module _ {I T : Type 0} (kind : T → ℕ) (le : I → I → Type 0) (wide : Wid
       Begins L [] → ((j : I) (w : List T) → le i j → next w ≡ next u → read j w ≡ stops expected w) → Ended le L read i expected u u
   ended_first L read i u b f = ([], refl, b, f, tt)
 
-  placed_one : {A : Type 0} (value : T → Option A) → Begins {I = I} (λ _. One value) [] → (i : I) → Placed le (λ _. One value) (λ _. read_one value) i
+  pub placed_one : {A : Type 0} (value : T → Option A) → Begins {I = I} (λ _. One value) [] → (i : I) → Placed le (λ _. One value) (λ _. read_one value) i
   unfolding read_one
   placed_one {A} value some i = record { takes = takes; ends = ends }
     where

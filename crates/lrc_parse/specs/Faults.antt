@@ -1,5 +1,5 @@
 -- Where a reading stops: languages within limits that may be widened.
-use Rattle.std.specs.Prelude.{◌≡◌, ℕ, Bool, true, false, cond, Option, Some, None, List, [], ◌∷◌, ◌++◌}
+use Rattle.std.specs.Prelude.{◌≡◌, ℕ, ◌≤◌, ◌<◌, Bool, true, false, cond, Option, Some, None, List, [], ◌∷◌, ◌++◌}
 use Rattle.lrc_parse.specs.Kinds.{has, starts}
 use Rattle.lrc_parse.specs.Language.{Lang}
 use Rattle.lrc_parse.specs.Reading.{Cause, expected, nested, limit, Reading, took, stops}
@@ -78,10 +78,15 @@ module _ {I T A : Type 0} (le : I → I → Type 0) where
     pub ends : (c : Cause) (u r : List T) → read i u ≡ stops c r → Ended L read i c u r
 
 module _ {I T A : Type 0} (kind : T → ℕ) (le : I → I → Type 0) where
-  -- exact within each limits, with a place for each stop
-  pub record Full (s : Shape) (L : I → Lang T A) (read : I → List T → Reading T A) : Type 0 where
-    pub exact : (i : I) → Exact kind s (L i) (read i)
+  -- exact within each limits, with a place for each stop within the limits `i`
+  pub record Full (s : Shape) (L : I → Lang T A) (read : I → List T → Reading T A) (i : I) : Type 0 where
+    pub exact : (j : I) → Exact kind s (L j) (read j)
     pub grows : Grows le L
-    pub tame : (i : I) → Tame kind s (read i)
+    pub tame : (j : I) → Tame kind s (read j)
     pub rich : Rich kind s L
-    pub placed : (i : I) → Placed le L read i
+    pub placed : Placed le L read i
+
+-- limits that wider ones keep, and that some limits bring above any number
+pub record Limit {I : Type 0} (le : I → I → Type 0) (n : I → ℕ) : Type 0 where
+  pub keeps : (i j : I) → le i j → n i ≤ n j
+  pub any : (m : ℕ) → (i : I) × (m < n i)
