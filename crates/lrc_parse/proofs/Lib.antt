@@ -11,3 +11,4 @@ pub mod Grow
 pub mod TameRich
 pub mod Places
 pub mod LoopPlaces
+pub mod Full

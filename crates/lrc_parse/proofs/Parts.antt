@@ -231,7 +231,7 @@ module _ {T : Type 0} (kind : T → ℕ) where
       empty x (inl l) = absurd (true_not_false _ (e.empty x l) n)
       empty x (inr m) = f.empty x m
 
-  disjoint_nil : (js : List ℕ) → disjoint js [] ≡ true
+  pub disjoint_nil : (js : List ℕ) → disjoint js [] ≡ true
   disjoint_nil [] = refl
   disjoint_nil (j ∷ js) = disjoint_nil js
 

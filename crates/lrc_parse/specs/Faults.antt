@@ -90,3 +90,23 @@ module _ {I T A : Type 0} (kind : T → ℕ) (le : I → I → Type 0) where
 pub record Limit {I : Type 0} (le : I → I → Type 0) (n : I → ℕ) : Type 0 where
   pub keeps : (i j : I) → le i j → n i ≤ n j
   pub any : (m : ℕ) → (i : I) × (m < n i)
+
+-- a sentence goes on behind `p`, and not with the next token; or it has not ended with the text
+abbrev pub Wanting : {I T A : Type 0} → (I → Lang T A) → List T → List T → Type 0
+Wanting {I} {T} {A} L p [] = Begins L p × ((i : I) (x : A) → ¬ L i p x)
+Wanting L p (t ∷ r) = Begins L p × ¬ Begins L (p ++ t ∷ [])
+
+-- a sentence goes on behind `p` with the next token, and none within the limits `i`
+abbrev pub Passing : {I T A : Type 0} → (I → Lang T A) → I → List T → List T → Type 0
+Passing L i p [] = ⊥
+Passing {I} {T} {A} L i p (t ∷ r) = Begins L (p ++ t ∷ []) × ((q : List T) (x : A) → ¬ L i (p ++ t ∷ q) x)
+
+-- what the cause of a stop says of its place
+abbrev pub Caused : {I T A : Type 0} → (I → Lang T A) → I → Cause → List T → List T → Type 0
+Caused L i expected p r = Wanting L p r
+Caused L i nested p r = Passing L i p r
+Caused L i (limit n) p r = Passing L i p r
+
+-- limits with the depth to which bodies may stand within one another
+abbrev pub Deeper : {I : Type 0} → (I → I → Type 0) → I × ℕ → I × ℕ → Type 0
+Deeper le i j = le i.0 j.0 × (i.1 ≤ j.1)
