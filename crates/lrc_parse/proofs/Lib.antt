@@ -12,3 +12,5 @@ pub mod TameRich
 pub mod Places
 pub mod LoopPlaces
 pub mod Full
+pub mod Deep
+pub mod Verdict

@@ -75,7 +75,7 @@ module _ {I T : Type 0} (kind : T → ℕ) (le : I → I → Type 0) (wide : Wid
   }
 
   -- an end for one cause at some tokens is that for the same cause at the same tokens
-  ended_same : {A : Type 0} (L : I → Lang T A) (read : I → List T → Reading T A) (i : I) (u : List T) (c d : Cause) (r s : List T) →
+  pub ended_same : {A : Type 0} (L : I → Lang T A) (read : I → List T → Reading T A) (i : I) (u : List T) (c d : Cause) (r s : List T) →
       ◌≡◌ {A = Reading T A} (stops c r) (stops d s) → Ended le L read i c u r → Ended le L read i d u s
   ended_same L read i u c d r s h e =
       subst (λ v. Ended le L read i d u v) (same_left c d r s h) (subst (λ b. Ended le L read i b u r) (same_cause c d r s h) e)
