@@ -3,3 +3,4 @@ pub mod Language
 pub mod Reading
 pub mod Exact
 pub mod Faults
+pub mod Sums

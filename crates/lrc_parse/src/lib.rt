@@ -10,11 +10,15 @@ mod combined;
 mod grammar;
 mod laws;
 mod repeats;
+mod stops;
+mod sums;
 
 pub use combined::{
     before_token, behind_token, choice, fixed_token, mapped, no_token, one_token, optional,
     sequence, with_room,
 };
-pub use grammar::{Grammar, Token};
+pub use grammar::{Grammar, LimitedGrammar, Token};
 pub use laws::{left_over, one_value, stopped, takes_a_token, whole_text};
 pub use repeats::{chain, folded_most, repeated, repeated_most, separated, separated_most};
+pub use stops::{left_place, stop_place, whole_text_within};
+pub use sums::Sign;
