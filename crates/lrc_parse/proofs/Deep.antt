@@ -1,10 +1,10 @@
 -- Bodies within one another: exact with a place for each stop at each depth.
-use Rattle.std.proofs.Common.{◌≡◌, ℕ, zero, suc, ◌+◌, ◌<◌, ◌≤◌, Bool, true, false, cond, List, [], ◌∷◌, ◌++◌, refl, sym, ap, ◌∙◌, subst, arith, max}
-use Rattle.lrc_parse.specs.Kinds.{has, starts}
+use Rattle.std.proofs.Common.{◌≡◌, ℕ, zero, suc, ◌≤◌, Bool, true, false, List, [], ◌∷◌, ◌++◌, refl, sym, ap, ◌∙◌, subst, arith, max}
+use Rattle.lrc_parse.specs.Kinds.{starts}
 use Rattle.lrc_parse.specs.Language.{Lang, Nothing, Nested}
 use Rattle.lrc_parse.specs.Reading.{Cause, expected, nested, limit, Reading, took, stops, read_nothing, read_nested}
 use Rattle.lrc_parse.specs.Exact.{Shape, Exact}
-use Rattle.lrc_parse.specs.Faults.{next, through, Widening, Begins, Grows, Stays, Tame, Rich, Taken, Ended, Placed, Full, Deeper}
+use Rattle.lrc_parse.specs.Faults.{through, Widening, Begins, Grows, Stays, Tame, Rich, Taken, Ended, Placed, Full, Deeper}
 use Rattle.lrc_parse.proofs.Sets.{true_not_false}
 use Rattle.lrc_parse.proofs.Steps.{read_nothing_first, read_nothing_other}
 use Rattle.lrc_parse.proofs.Back.{stops_not_took}
@@ -18,7 +18,7 @@ use Rattle.lrc_parse.proofs.Places.{starts_next, stays_wide, ended_same, ended_f
 pub deeper_wide : {I : Type 0} (le : I → I → Type 0) → Widening le → Widening (Deeper le)
 deeper_wide le wide = record {
   same = λ i. (wide.same i.0, omega arith);
-  upper = λ i j. let k : _ = wide.upper i.0 j.0 in ((k.0, max i.1 j.1), (k.1, omega arith), (k.2, omega arith))
+  upper = λ i j. let k : _ = wide.upper i.0 j.0 in ((k.0, max i.1 j.1), (k.1, omega arith), (k.2, omega arith));
 }
 
 module _ {T A : Type 0} where
@@ -55,7 +55,7 @@ module _ {I T A : Type 0} (kind : T → ℕ) (le : I → I → Type 0) (wide : W
     (tame : (i : I) (a : List T → Reading T A) → Tame kind s a → Tame kind s (read i a))
     (rich : (N : I × ℕ → Lang T A) → Grows (Deeper le) N → Begins N [] → Rich kind s (λ j. body j.0 (N j)))
     (placed : (N : I × ℕ → Lang T A) (a : I × ℕ → List T → Reading T A) (j : I × ℕ) → Full kind (Deeper le) s N a j →
-        Placed (Deeper le) (λ k. body k.0 (N k)) (λ k. read k.0 (a k)) j) where
+    Placed (Deeper le) (λ k. body k.0 (N k)) (λ k. read k.0 (a k)) j) where
   -- the languages and readings at each depth, and within the outermost body
   abbrev deep : I × ℕ → Lang T A
   deep j = Nested (body j.0) j.1
@@ -110,25 +110,30 @@ module _ {I T A : Type 0} (kind : T → ℕ) (le : I → I → Type 0) (wide : W
   within_rich = record {
     some = within_some;
     nothing = λ n. absurd (true_not_false _ n filled);
-    opens = λ t h. one_deeper (t ∷ []) (deep_rich.opens t h)
+    opens = λ t h. one_deeper (t ∷ []) (deep_rich.opens t h);
   }
 
   -- nothing may stand within the innermost body
   none_placed : (i : I) → Placed (Deeper le) within within_reads (i, zero)
   none_placed i = record {
     takes = λ u x r h. absurd (never (starts kind s.first u) u x r refl h);
-    ends = λ c u r h. ends (starts kind s.first u) c u r refl h
+    ends = λ c u r h. ends (starts kind s.first u) c u r refl h;
   }
     where
       never : (z : Bool) (u : List T) (x : A) (r : List T) → starts kind s.first u ≡ z → read_nothing kind s.first nested u ≡ took x r → ⊥
       never true u x r st h = stops_not_took nested x u r (sym (read_nothing_first kind s.first nested u st) ∙ h)
       never false u x r st h = stops_not_took expected x u r (sym (read_nothing_other kind s.first nested u st) ∙ h)
+
       passed : (u : List T) → starts kind s.first u ≡ true → Ended (Deeper le) within within_reads (i, zero) nested u u
       passed [] st = absurd (true_not_false false st refl)
-      passed (t ∷ q) st =
-          ([], refl, within_rich.opens t st,
-            (λ j w l m. subst (λ k. within_reads k w ≡ stops nested w) l (read_nothing_first kind s.first nested w (starts_next kind s.first (t ∷ q) w m ∙ st))),
-            (t, q, refl))
+      passed (t ∷ q) st = (
+        [],
+        refl,
+        within_rich.opens t st,
+        (λ j w l m. subst (λ k. within_reads k w ≡ stops nested w) l (read_nothing_first kind s.first nested w (starts_next kind s.first (t ∷ q) w m ∙ st))),
+        (t, q, refl),
+      )
+
       ends : (z : Bool) (c : Cause) (u r : List T) → starts kind s.first u ≡ z → within_reads (i, zero) u ≡ stops c r →
           Ended (Deeper le) within within_reads (i, zero) c u r
       ends true c u r st h = ended_same kind (Deeper le) (deeper_wide le wide) within within_reads (i, zero) u nested c u r
@@ -136,7 +141,7 @@ module _ {I T A : Type 0} (kind : T → ℕ) (le : I → I → Type 0) (wide : W
       ends false c u r st h = ended_same kind (Deeper le) (deeper_wide le wide) within within_reads (i, zero) u expected c u r
           (sym (read_nothing_other kind s.first nested u st) ∙ h)
           (ended_first kind (Deeper le) (deeper_wide le wide) within within_reads (i, zero) u within_some
-            (λ j w l m. (inner_tame j.0 j.1).misses filled w (starts_next kind s.first u w m ∙ st)))
+          (λ j w l m. (inner_tame j.0 j.1).misses filled w (starts_next kind s.first u w m ∙ st)))
 
   -- what stays within limits and a depth stays one deeper
   stays_deeper : (c : Cause) (i j : I) (m n : ℕ) → Stays (Deeper le) c (i, suc m) (j, suc n) → Stays (Deeper le) c (i, m) (j, n)
@@ -159,17 +164,27 @@ module _ {I T A : Type 0} (kind : T → ℕ) (le : I → I → Type 0) (wide : W
       again : (k : ℕ) (j : I) (o : Reading T A) (v : List T) → suc n ≤ k → ((m : ℕ) → k ≡ suc m → deep_reads (j, m) v ≡ o) → within_reads (j, k) v ≡ o
       again zero j o v h f = absurd (omega (arith, h))
       again (suc m) j o v h f = f m refl
+
       takes : (u : List T) (x : A) (r : List T) → deep_reads (i, n) u ≡ took x r → Taken (Deeper le) within within_reads (i, suc n) u x r
       takes u x r h =
-          let v : Taken (Deeper le) deep deep_reads (i, n) u x r = e.takes u x r h in
-          (v.0, v.1, v.2, λ j w l m. again j.1 j.0 (took x w) (v.0 ++ w) l.1
-            (λ d g. v.3 (j.0, d) w (l.0, (let b : suc n ≤ j.1 = l.1 in let c : j.1 ≡ suc d = g in omega (arith, b, c))) m))
+          let v : Taken (Deeper le) deep deep_reads (i, n) u x r = e.takes u x r h in (
+            v.0,
+            v.1,
+            v.2,
+            λ j w l m. again j.1 j.0 (took x w) (v.0 ++ w) l.1
+                (λ d g. v.3 (j.0, d) w (l.0, (let b : suc n ≤ j.1 = l.1 in let c : j.1 ≡ suc d = g in omega (arith, b, c))) m),
+          )
+
       ends : (c : Cause) (u r : List T) → deep_reads (i, n) u ≡ stops c r → Ended (Deeper le) within within_reads (i, suc n) c u r
       ends c u r h =
-          let v : Ended (Deeper le) deep deep_reads (i, n) c u r = e.ends c u r h in
-          (v.0, v.1, one_deeper (v.0 ++ through c r) v.2,
+          let v : Ended (Deeper le) deep deep_reads (i, n) c u r = e.ends c u r h in (
+            v.0,
+            v.1,
+            one_deeper (v.0 ++ through c r) v.2,
             (λ j w l m. again j.1 j.0 (stops c w) (v.0 ++ w) ((stays_wide kind (Deeper le) (deeper_wide le wide) c (i, suc n) j l).1)
-              (λ d g. v.3 (j.0, d) w (stays_deeper c i j.0 n d (subst (λ k. Stays (Deeper le) c (i, suc n) (j.0, k)) g l)) m)), v.4)
+                (λ d g. v.3 (j.0, d) w (stays_deeper c i j.0 n d (subst (λ k. Stays (Deeper le) c (i, suc n) (j.0, k)) g l)) m)),
+            v.4,
+          )
 
   full_inside : (i : I) (n : ℕ) → Placed (Deeper le) within within_reads (i, n) → Full kind (Deeper le) s within within_reads (i, n)
   full_inside i n e = record {
@@ -177,13 +192,13 @@ module _ {I T A : Type 0} (kind : T → ℕ) (le : I → I → Type 0) (wide : W
     grows = within_grows;
     tame = λ j. inner_tame j.0 j.1;
     rich = within_rich;
-    placed = e
+    placed = e;
   }
 
   deep_placed : (i : I) (n : ℕ) → Placed (Deeper le) within within_reads (i, n) → Placed (Deeper le) deep deep_reads (i, n)
   deep_placed i n e =
       placed_as kind (Deeper le) (deeper_wide le wide) (λ j. body j.0 (within j)) deep (λ j. read j.0 (within_reads j)) deep_reads (i, n)
-        (placed within within_reads (i, n) (full_inside i n e)) (λ j. inner_to (body j.0) j.1) (λ j. inner_same kind (read j.0) s.first j.1)
+      (placed within within_reads (i, n) (full_inside i n e)) (λ j. inner_to (body j.0) j.1) (λ j. inner_same kind (read j.0) s.first j.1)
 
   within_placed : (i : I) (n : ℕ) → Placed (Deeper le) within within_reads (i, n)
   within_placed i zero = none_placed i
@@ -195,7 +210,7 @@ module _ {I T A : Type 0} (kind : T → ℕ) (le : I → I → Type 0) (wide : W
     grows = λ i k l. nested_grow i.1 k.1 i.0 k.0 l.0 l.1;
     tame = λ k. deep_tame k.0 k.1;
     rich = deep_rich;
-    placed = deep_placed j.0 j.1 (within_placed j.0 j.1)
+    placed = deep_placed j.0 j.1 (within_placed j.0 j.1);
   }
 
 -- limits that are chosen by others: wider ones among these are wider, and none is out of their reach
@@ -211,21 +226,24 @@ module _ {I J T A : Type 0} (kind : T → ℕ) (le : I → I → Type 0) (at : J
     rich = record {
       some = reached [] e.rich.some;
       nothing = λ n. let w : (i : I) × (x : A) × L i [] x = e.rich.nothing n in let k : _ = reach w.0 in (k.0, w.1, e.grows _ _ k.1 _ _ w.2);
-      opens = λ t h. reached (t ∷ []) (e.rich.opens t h)
+      opens = λ t h. reached (t ∷ []) (e.rich.opens t h);
     };
-    placed = record { takes = takes; ends = ends }
+    placed = record { takes = takes; ends = ends };
   }
     where
       reached : (p : List T) → Begins L p → Begins (λ k. L (chosen k)) p
       reached p b = let k : _ = reach b.0 in (k.0, b.1, b.2, e.grows _ _ k.1 _ _ b.3)
+
       stays : (c : Cause) (i k : J) → Stays at c i k → Stays le c (chosen i) (chosen k)
       stays expected i k h = keeps i k h
       stays nested i k h = ap chosen h
       stays (limit n) i k h = ap chosen h
+
       takes : (u : List T) (x : A) (r : List T) → a (chosen j) u ≡ took x r → Taken at (λ k. L (chosen k)) (λ k. a (chosen k)) j u x r
       takes u x r h =
           let v : Taken le L a (chosen j) u x r = e.placed.takes u x r h in
           (v.0, v.1, v.2, λ k w l m. v.3 (chosen k) w (keeps j k l) m)
+
       ends : (c : Cause) (u r : List T) → a (chosen j) u ≡ stops c r → Ended at (λ k. L (chosen k)) (λ k. a (chosen k)) j c u r
       ends c u r h =
           let v : Ended le L a (chosen j) c u r = e.placed.ends c u r h in

@@ -1,6 +1,6 @@
 -- More sentences of the parts make more sentences of the whole.
-use Rattle.std.proofs.Common.{◌≡◌, ℕ, zero, suc, ◌+◌, ◌<◌, ◌≤◌, ltb, Bool, true, false, Option, Some, None, List, [], ◌∷◌, ◌++◌, length, refl, inl, inr, arith}
-use Rattle.lrc_parse.specs.Language.{Lang, Nothing, Empty, Of, Then, Given, Either, Optional, Within, Many, Most, Chain, Folded, Nested, Skip, Ends, Separated}
+use Rattle.std.proofs.Common.{ℕ, ◌≤◌, Some, None, List, [], ◌∷◌, length, inl, inr, arith}
+use Rattle.lrc_parse.specs.Language.{Lang, Empty, Of, Then, Given, Either, Optional, Many, Most, Chain, Folded, Skip, Ends, Separated}
 
 -- each sentence of the one is one of the other, with the same value
 abbrev pub Sub : {T A : Type 0} → Lang T A → Lang T A → Type 0

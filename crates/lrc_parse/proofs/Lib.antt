@@ -14,3 +14,4 @@ pub mod LoopPlaces
 pub mod Full
 pub mod Deep
 pub mod Verdict
+pub mod SumProofs

@@ -1,8 +1,8 @@
 -- The steps of the readings of lists and chains: one item more, the end, and a stop.
-use Rattle.std.proofs.Common.{◌≡◌, ℕ, suc, ◌+◌, ◌<◌, ◌≤◌, eqb, ltb, Bool, true, false, cond, List, [], ◌∷◌, ◌++◌, length, refl, sym, ap, ◌∙◌, arith}
+use Rattle.std.proofs.Common.{◌≡◌, ℕ, suc, ◌+◌, ◌<◌, ◌≤◌, true, false, cond, List, [], ◌∷◌, ◌++◌, length, sym, ap, ◌∙◌}
 use Rattle.std.proofs.lemmas.Bool.{lt-ltb, le-ltb, eq-eqb, ne_eqb}
-use Rattle.lrc_parse.specs.Kinds.{has, starts}
-use Rattle.lrc_parse.specs.Reading.{Cause, expected, Reading, took, stops, on_took, read_of, read_within, read_skip, read_loop, read_push, read_many, read_push_most, read_most, read_others, read_separated, read_others_most, read_separated_most, read_joined, read_chain, read_join_most, read_joined_most, read_folded_most}
+use Rattle.lrc_parse.specs.Kinds.{starts}
+use Rattle.lrc_parse.specs.Reading.{Cause, expected, Reading, took, stops, on_took, read_of, read_skip, read_push, read_many, read_push_most, read_most, read_others, read_separated, read_others_most, read_separated_most, read_joined, read_chain, read_join_most, read_joined_most, read_folded_most}
 use Rattle.lrc_parse.proofs.Steps.{read_of_took, read_of_stops, read_skip_took, read_within_room, read_within_passed, read_within_other}
 use Rattle.lrc_parse.proofs.Loops.{read_loop_end, read_loop_stops, read_loop_more}
 

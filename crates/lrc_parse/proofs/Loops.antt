@@ -1,12 +1,12 @@
 -- The loop: its steps, and that its reading is exact where each turn's is.
-use Rattle.std.proofs.Common.{◌≡◌, ℕ, zero, suc, ◌+◌, ◌<◌, ◌≤◌, eqb, ltb, Bool, true, false, cond, List, [], ◌∷◌, ◌++◌, length, refl, sym, ap, ◌∙◌, subst, ◌⊎◌, inl, inr, append_assoc, length-append, arith}
+use Rattle.std.proofs.Common.{◌≡◌, ℕ, zero, suc, ◌+◌, ◌<◌, ◌≤◌, ltb, Bool, true, false, cond, List, [], ◌∷◌, ◌++◌, length, refl, sym, ap, ◌∙◌, ◌⊎◌, inl, inr, append_assoc, length-append, arith}
 use Rattle.std.proofs.lemmas.Bool.{lt-ltb, ltb-true}
 use Rattle.lrc_parse.specs.Kinds.{has, disjoint, starts}
 use Rattle.lrc_parse.specs.Language.{Lang, Turns, Loop, Nested, Nothing}
-use Rattle.lrc_parse.specs.Reading.{Cause, expected, nested, Reading, took, stops, on_took, read_turns, read_loop, read_nothing, read_nested}
+use Rattle.lrc_parse.specs.Reading.{Cause, nested, Reading, took, stops, on_took, read_turns, read_loop, read_nothing, read_nested}
 use Rattle.lrc_parse.specs.Exact.{Shape, Exact, shape_many}
-use Rattle.lrc_parse.proofs.Sets.{true_not_false, has_left, has_right, apart, clear_left, clear_right}
-use Rattle.lrc_parse.proofs.Back.{same_value, same_rest, stops_not_took, on_took_back, cond_cases}
+use Rattle.lrc_parse.proofs.Sets.{true_not_false, apart, clear_left, clear_right}
+use Rattle.lrc_parse.proofs.Back.{same_value, same_rest, on_took_back, cond_cases}
 use Rattle.lrc_parse.proofs.Parts.{same_head, not_nil, two_parts, exact_as, exact_nothing}
 
 cond_same : {X : Type 0} (b : Bool) (x y z : X) → (b ≡ true → x ≡ y) → cond b x z ≡ cond b y z

@@ -1,10 +1,9 @@
 -- Each combinator's reading is exact where its parts' readings are.
-use Rattle.std.proofs.Common.{◌≡◌, ℕ, suc, zero, eqb, Bool, true, false, cond, Option, Some, None, List, [], ◌∷◌, ◌++◌, refl, sym, ap, ◌∙◌, subst, ◌⊎◌, inl, inr, append_assoc}
-use Rattle.std.proofs.lemmas.List.{append-nil}
-use Rattle.std.proofs.lemmas.Bool.{eqb-true, eq-eqb}
+use Rattle.std.proofs.Common.{◌≡◌, ℕ, Bool, true, false, cond, Option, Some, None, List, [], ◌∷◌, ◌++◌, refl, sym, ap, ◌∙◌, subst, inl, inr, append_assoc}
+use Rattle.std.proofs.lemmas.Bool.{eq-eqb}
 use Rattle.lrc_parse.specs.Kinds.{has, disjoint, starts}
 use Rattle.lrc_parse.specs.Language.{Lang, Nothing, Empty, One, Of, Then, Given, Either, Optional, Within, Fixed, Skip, Ends}
-use Rattle.lrc_parse.specs.Reading.{Cause, expected, Reading, took, stops, on_took, token_value, past_token, read_empty, read_one, read_of, read_then, read_given, read_fixed, read_skip, read_ends, read_either, read_optional, read_nothing, read_within}
+use Rattle.lrc_parse.specs.Reading.{Cause, expected, Reading, took, stops, read_empty, read_one, read_of, read_then, read_given, read_fixed, read_skip, read_ends, read_either, read_optional, read_nothing, read_within}
 use Rattle.lrc_parse.specs.Exact.{Shape, Exact, shape_one, shape_empty, shape_then, shape_either, shape_skip, shape_ends}
 use Rattle.lrc_parse.proofs.Sets.{true_not_false, has_left, has_right, apart, clear_left, clear_right}
 use Rattle.lrc_parse.proofs.Steps.{read_one_took, read_of_took, read_given_took, read_fixed_took, read_skip_took, read_either_first, read_either_second, read_within_room}
@@ -176,16 +175,16 @@ module _ {T : Type 0} (kind : T → ℕ) where
       disjoint s.more t.first ≡ true → Exact kind s L a → Exact kind t M b → Exact kind (shape_then s t) (Then L M) (read_then a b)
   exact_then s t L M a b d e f =
       exact_as (shape_then s t) (then_parts L M) (Then L M) _ (read_then a b)
-        (exact_given s t L (λ x. Of (λ y. (x, y)) M) a (λ x. read_of (λ y. (x, y)) b) d e (λ x. exact_of (λ y. (x, y)) t M b f))
-        (then_to L M) (then_from L M) (then_same a b)
+      (exact_given s t L (λ x. Of (λ y. (x, y)) M) a (λ x. read_of (λ y. (x, y)) b) d e (λ x. exact_of (λ y. (x, y)) t M b f))
+      (then_to L M) (then_from L M) (then_same a b)
 
   pub exact_ends : {A : Type 0} (s : Shape) (L : Lang T A) (a : List T → Reading T A) (k : ℕ) →
       disjoint s.more (k ∷ []) ≡ true → Exact kind s L a → Exact kind (shape_ends s k) (Ends kind L k) (read_ends kind a k)
   exact_ends s L a k d e =
       exact_as (shape_ends s k) (ends_parts kind L k) (Ends kind L k) _ (read_ends kind a k)
-        (exact_given s (shape_one (k ∷ [])) L (λ x. Of (λ _. x) (Fixed kind k)) a (λ x. read_of (λ _. x) (read_fixed kind k)) d e
-          (λ x. exact_of (λ _. x) (shape_one (k ∷ [])) (Fixed kind k) (read_fixed kind k) (exact_fixed k)))
-        (ends_to kind L k) (ends_from kind L k) (ends_same kind a k)
+      (exact_given s (shape_one (k ∷ [])) L (λ x. Of (λ _. x) (Fixed kind k)) a (λ x. read_of (λ _. x) (read_fixed kind k)) d e
+      (λ x. exact_of (λ _. x) (shape_one (k ∷ [])) (Fixed kind k) (read_fixed kind k) (exact_fixed k)))
+      (ends_to kind L k) (ends_from kind L k) (ends_same kind a k)
 
   pub exact_either : {A : Type 0} (s t : Shape) (L M : Lang T A) (a b : List T → Reading T A) →
       disjoint s.first t.first ≡ true → s.empty ≡ false → Exact kind s L a → Exact kind t M b →

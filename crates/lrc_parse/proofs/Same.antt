@@ -4,7 +4,6 @@ use Rattle.std.proofs.lemmas.List.{append-nil}
 use Rattle.std.proofs.lemmas.Bool.{lt-ltb, ltb-true, eqb-true, eq-eqb}
 use Rattle.lrc_parse.specs.Language.{Lang, One, Of, Then, Given, Within, Many, Most, fold_left, Chain, Folded, Turns, Loop, Fixed, Skip, Ends, Separated}
 use Rattle.lrc_parse.specs.Reading.{Cause, expected, Reading, took, stops, on_took, token_value, past_token, read_one, read_of, read_then, read_given, read_fixed, read_within, read_skip, read_ends, read_loop, read_push, read_many, read_push_most, read_most, read_others, read_separated, read_others_most, read_separated_most, read_join_most, read_joined_most, read_folded_most, read_joined, read_chain}
-use Rattle.lrc_parse.proofs.Sets.{true_not_false}
 
 -- `xs` with one item more
 abbrev pub pushed : {A : Type 0} → List A → A → List A

@@ -1,9 +1,9 @@
 -- What a full reading says of a whole text: the value, or the cause and the place of the first fault.
-use Rattle.std.proofs.Common.{◌≡◌, ℕ, Bool, List, [], ◌∷◌, ◌++◌, refl, sym, ap, ◌∙◌, subst, append_assoc}
+use Rattle.std.proofs.Common.{◌≡◌, ℕ, List, [], ◌∷◌, ◌++◌, refl, sym, ap, ◌∙◌, subst, append_assoc}
 use Rattle.std.proofs.lemmas.List.{append-nil}
 use Rattle.lrc_parse.specs.Language.{Lang}
 use Rattle.lrc_parse.specs.Reading.{Cause, expected, nested, limit, Reading, took, stops}
-use Rattle.lrc_parse.specs.Exact.{Shape, Exact}
+use Rattle.lrc_parse.specs.Exact.{Shape}
 use Rattle.lrc_parse.specs.Faults.{through, Widening, Begins, Stays, Stands, Taken, Ended, Placed, Full, Wanting, Passing, Caused}
 use Rattle.lrc_parse.proofs.Back.{stops_not_took, same_rest}
 use Rattle.lrc_parse.proofs.Whole.{whole_read}
@@ -44,13 +44,21 @@ module _ {I T A : Type 0} (kind : T → ℕ) (le : I → I → Type 0) (wide : W
   stop_place nested u r h = go (e.placed.ends nested u r h)
     where
       go : Ended le L read i nested u r → (p : List T) × (u ≡ p ++ r) × Passing L i p r
-      go v = (v.0, v.1, passing nested u r v.0 v.4.0 v.4.1 v.4.2 (subst (λ o. Begins L (v.0 ++ through nested o)) v.4.2 v.2)
-          (λ w. v.3 i (v.4.0 ∷ w) refl (sym (ap Rattle.lrc_parse.specs.Faults.next v.4.2))))
+      go v = (
+        v.0,
+        v.1,
+        passing nested u r v.0 v.4.0 v.4.1 v.4.2 (subst (λ o. Begins L (v.0 ++ through nested o)) v.4.2 v.2)
+            (λ w. v.3 i (v.4.0 ∷ w) refl (sym (ap Rattle.lrc_parse.specs.Faults.next v.4.2))),
+      )
   stop_place (limit n) u r h = go (e.placed.ends (limit n) u r h)
     where
       go : Ended le L read i (limit n) u r → (p : List T) × (u ≡ p ++ r) × Passing L i p r
-      go v = (v.0, v.1, passing (limit n) u r v.0 v.4.0 v.4.1 v.4.2 (subst (λ o. Begins L (v.0 ++ through (limit n) o)) v.4.2 v.2)
-          (λ w. v.3 i (v.4.0 ∷ w) refl (sym (ap Rattle.lrc_parse.specs.Faults.next v.4.2))))
+      go v = (
+        v.0,
+        v.1,
+        passing (limit n) u r v.0 v.4.0 v.4.1 v.4.2 (subst (λ o. Begins L (v.0 ++ through (limit n) o)) v.4.2 v.2)
+            (λ w. v.3 i (v.4.0 ∷ w) refl (sym (ap Rattle.lrc_parse.specs.Faults.next v.4.2))),
+      )
 
   -- where a sentence is read and a token is left, no sentence goes on with that token
   pub left_place : (u r : List T) (t : T) (x : A) → read i u ≡ took x (t ∷ r) → (p : List T) × (u ≡ p ++ t ∷ r) × L i p x × ¬ Begins L (p ++ t ∷ [])
@@ -58,5 +66,6 @@ module _ {I T A : Type 0} (kind : T → ℕ) (le : I → I → Type 0) (wide : W
     where
       left : (q : List T) → t ∷ q ≡ [] → ⊥
       left q e = cc
+
       go : Taken le L read i u x (t ∷ r) → (p : List T) × (u ≡ p ++ t ∷ r) × L i p x × ¬ Begins L (p ++ t ∷ [])
       go v = (v.0, v.1, v.2, none_on v.0 t (λ j q l y g. left q (same_rest x y (t ∷ q) [] (sym (v.3 j (t ∷ q) l refl) ∙ g))))

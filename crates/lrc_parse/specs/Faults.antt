@@ -1,5 +1,5 @@
 -- Where a reading stops: languages within limits that may be widened.
-use Rattle.std.specs.Prelude.{◌≡◌, ℕ, ◌≤◌, ◌<◌, Bool, true, false, cond, Option, Some, None, List, [], ◌∷◌, ◌++◌}
+use Rattle.std.specs.Prelude.{◌≡◌, ℕ, ◌≤◌, ◌<◌, true, false, Option, Some, None, List, [], ◌∷◌, ◌++◌}
 use Rattle.lrc_parse.specs.Kinds.{has, starts}
 use Rattle.lrc_parse.specs.Language.{Lang}
 use Rattle.lrc_parse.specs.Reading.{Cause, expected, nested, limit, Reading, took, stops}

@@ -1,5 +1,5 @@
 -- Readings: what is read at the head of some tokens, with the next token alone to choose by.
-use Rattle.std.specs.Prelude.{ℕ, zero, suc, ◌+◌, ◌==◌, nat_lt, Bool, true, false, cond, Option, Some, None, List, [], ◌∷◌, ◌++◌, length}
+use Rattle.std.specs.Prelude.{ℕ, zero, suc, ◌+◌, ◌==◌, nat_lt, Bool, cond, Option, Some, None, List, [], ◌∷◌, ◌++◌, length}
 use Rattle.lrc_parse.specs.Kinds.{starts}
 
 -- why a reading stops

@@ -1,5 +1,5 @@
 -- An example: sums of numbers by `+`, left to right, with sums in brackets as numbers; they count modulo 256.
-use Rattle.std.specs.Prelude.{◌≡◌, ℕ, ◌+◌, ◌%◌, Bool, true, false, Option, Some, None, List, [], ◌∷◌}
+use Rattle.std.specs.Prelude.{ℕ, ◌+◌, ◌%◌, ◌≤◌, false, Option, Some, None, List, [], ◌∷◌}
 use Rattle.lrc_parse.specs.Language.{Lang, One, Either, Chain, Nested, Skip, Ends}
 use Rattle.lrc_parse.specs.Reading.{Reading, read_one, read_either, read_chain, read_skip, read_ends, read_nested}
 use Rattle.lrc_parse.specs.Exact.{Shape}
@@ -49,3 +49,7 @@ reads_sum depth u = read_nested kind_of reads_sum_of (0 ∷ 2 ∷ []) depth u
 -- a sum begins with a number or a bracket, and goes on with a plus
 abbrev pub sum_shape : Shape
 sum_shape = record { first = 0 ∷ 2 ∷ []; empty = false; more = 1 ∷ [] }
+
+-- a greater depth is wider
+abbrev pub deeper : ℕ → ℕ → Type 0
+deeper m n = m ≤ n

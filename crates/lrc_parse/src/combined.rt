@@ -22,28 +22,35 @@ pub fn no_token<T: Token, A>()
 {}
 
 /// The reading of what a function makes of each value is exact.
-pub fn mapped<T: Token, G: Grammar<Token = T>, B>()
+pub fn mapped<T: Token, B, G: Grammar<Token = T>>()
+    requires { Exact T.kind G.shape G.sentences G.reading }
     ensures { (f : G.Value → B) → Exact T.kind G.shape (Of f G.sentences) (read_of f G.reading) }
 {}
 
 /// The reading of one and then the other is exact.
 pub fn sequence<T: Token, G: Grammar<Token = T>, H: Grammar<Token = T>>()
-    requires { disjoint G.shape.more H.shape.first ≡ true }
+    requires first { Exact T.kind G.shape G.sentences G.reading }
+    requires second { Exact T.kind H.shape H.sentences H.reading }
+    requires disjoint { disjoint G.shape.more H.shape.first ≡ true }
     ensures { Exact T.kind (shape_then G.shape H.shape) (Then G.sentences H.sentences) (read_then G.reading H.reading) }
 {}
 
 /// The reading behind a token of a kind is exact.
 pub fn behind_token<T: Token, G: Grammar<Token = T>>()
+    requires { Exact T.kind G.shape G.sentences G.reading }
     ensures { (k : ℕ) → Exact T.kind (shape_skip k G.shape) (Skip T.kind k G.sentences) (read_skip T.kind k G.reading) }
 {}
 
 /// The reading before a token of a kind is exact.
 pub fn before_token<T: Token, G: Grammar<Token = T>>()
+    requires { Exact T.kind G.shape G.sentences G.reading }
     ensures { (k : ℕ) → disjoint G.shape.more (k ∷ []) ≡ true → Exact T.kind (shape_ends G.shape k) (Ends T.kind G.sentences k) (read_ends T.kind G.reading k) }
 {}
 
 /// The reading of the one or the other, by the next token, is exact.
 pub fn choice<T: Token, A, G: Grammar<Token = T, Value = A>, H: Grammar<Token = T, Value = A>>()
+    requires first { Exact T.kind G.shape G.sentences G.reading }
+    requires second { Exact T.kind H.shape H.sentences H.reading }
     requires disjoint { disjoint G.shape.first H.shape.first ≡ true }
     requires some { G.shape.empty ≡ false }
     ensures { Exact T.kind (shape_either G.shape H.shape) (Either G.sentences H.sentences) (read_either T.kind G.shape.first G.reading H.reading) }
@@ -51,11 +58,13 @@ pub fn choice<T: Token, A, G: Grammar<Token = T, Value = A>, H: Grammar<Token = 
 
 /// The reading of one or none is exact.
 pub fn optional<T: Token, G: Grammar<Token = T>>()
-    requires { G.shape.empty ≡ false }
+    requires exact { Exact T.kind G.shape G.sentences G.reading }
+    requires some { G.shape.empty ≡ false }
     ensures { Exact T.kind (shape_either G.shape shape_empty) (Optional G.sentences) (read_optional T.kind G.shape.first G.reading) }
 {}
 
 /// The reading of one where there is room for it is exact.
 pub fn with_room<T: Token, G: Grammar<Token = T>>()
+    requires { Exact T.kind G.shape G.sentences G.reading }
     ensures { (room : Bool) (cause : Cause) → Exact T.kind G.shape (Within room G.sentences) (read_within T.kind room G.shape.first cause G.reading) }
 {}

@@ -21,4 +21,4 @@ pub use grammar::{Grammar, LimitedGrammar, Token};
 pub use laws::{left_over, one_value, stopped, takes_a_token, whole_text};
 pub use repeats::{chain, folded_most, repeated, repeated_most, separated, separated_most};
 pub use stops::{left_place, stop_place, whole_text_within};
-pub use sums::Sign;
+pub use sums::{Sign, Sums, sum_read_exactly};

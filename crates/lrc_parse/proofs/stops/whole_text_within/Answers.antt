@@ -3,5 +3,5 @@ use Rattle.lrc_parse.proofs.stops.whole_text_within.Goals as goal
 
 pub returns : goal.returns
 returns g c =
-    let e = g.met.G.LimitedGrammar.full in
-    λ u x. (read_whole _ _ _ _ (e.exact g.G.LimitedGrammar.limits) u x, whole_read _ _ _ _ (e.exact g.G.LimitedGrammar.limits) u x)
+    let e = c.requires.exact g.G.LimitedGrammar.limits in
+    λ u x. (read_whole _ _ _ _ e u x, whole_read _ _ _ _ e u x)
