@@ -14,4 +14,5 @@ pub mod LoopPlaces
 pub mod Full
 pub mod Deep
 pub mod Verdict
+pub mod SumSteps
 pub mod SumProofs

@@ -1,20 +1,21 @@
 -- The example's reading is exact, with a place for each stop: a line for each nonterminal.
-use Rattle.std.proofs.Common.{◌≡◌, ℕ, ◌+◌, true, false, Some, List, [], ◌∷◌, refl, inl, arith}
+use Rattle.std.proofs.Common.{◌≡◌, ℕ, zero, suc, ◌+◌, ◌<◌, length, true, false, Some, List, [], ◌∷◌, refl, inl, arith}
 use Rattle.lrc_parse.specs.Kinds.{has}
 use Rattle.lrc_parse.specs.Language.{Lang, Nothing, One, Skip, Ends}
-use Rattle.lrc_parse.specs.Reading.{Reading, read_one, read_skip, read_ends}
+use Rattle.lrc_parse.specs.Reading.{Reading, nested, took, read_one, read_skip, read_ends}
 use Rattle.lrc_parse.specs.Exact.{Shape, Exact, shape_one, shape_skip, shape_ends, shape_either}
 use Rattle.lrc_parse.specs.Faults.{Widening, Begins, Tame, Rich, Placed, Full, Deeper}
 use Rattle.lrc_parse.specs.declared.sums.Sign.{Sign}
 use Rattle.lrc_parse.specs.declared.sums.Sign.TheVariants.{Number, Plus, Open, Close}
-use Rattle.lrc_parse.specs.Sums.{kind_of, number_of, added, IsAtom, SumOf, IsSum, reads_atom, reads_sum_of, reads_sum, sum_shape, deeper}
-use Rattle.lrc_parse.proofs.Parts.{exact_one, exact_skip, exact_ends, exact_either}
+use Rattle.lrc_parse.specs.Sums.{kind_of, number_of, added, IsAtom, SumOf, IsSum, reads_atom, reads_sum_of, reads_sum, reads_inside, reads_atom_at, sum_shape, deeper}
+use Rattle.lrc_parse.proofs.Parts.{exact_nothing, exact_one, exact_skip, exact_ends, exact_either}
 use Rattle.lrc_parse.proofs.Lists.{exact_chain}
+use Rattle.lrc_parse.proofs.Whole.{shorter}
 use Rattle.lrc_parse.proofs.Loops.{exact_nested}
 use Rattle.lrc_parse.proofs.Grow.{Sub, sub_same, sub_either, sub_chain, sub_skip, sub_ends}
 use Rattle.lrc_parse.proofs.TameRich.{tame_either, tame_chain, tame_skip, rich_one, rich_skip, rich_either, rich_chain, some_ends}
 use Rattle.lrc_parse.proofs.Full.{full_one, full_skip, full_ends, full_either, full_chain}
-use Rattle.lrc_parse.proofs.Deep.{deeper_wide, full_nested, full_chosen}
+use Rattle.lrc_parse.proofs.Deep.{inner, deeper_wide, full_nested, full_chosen}
 
 -- a number's kind is among the numbers' kinds, and a sign of that kind has a value
 number_kind : (t : Sign) (x : ℕ) → number_of t ≡ Some x → has (0 ∷ []) (kind_of t) ≡ true
@@ -57,6 +58,11 @@ exact_sum_of L a e =
 pub exact_sum : (depth : ℕ) → Exact kind_of sum_shape (IsSum depth) (reads_sum depth)
 unfolding reads_sum
 exact_sum depth = exact_nested kind_of sum_shape SumOf reads_sum_of exact_sum_of depth
+
+exact_inside : (depth : ℕ) → Exact kind_of sum_shape (inner SumOf depth) (reads_inside depth)
+unfolding reads_inside
+exact_inside zero = exact_nothing kind_of sum_shape nested
+exact_inside (suc depth) = exact_sum depth
 
 -- nothing but the depth is limited
 abbrev free : Unit {0} → Unit {0} → Type 0
@@ -122,3 +128,9 @@ full_sum depth =
 
 pub deeper_widens : Widening deeper
 deeper_widens = record { same = λ i. omega arith; upper = λ i j. (i + j, omega arith, omega arith) }
+
+-- an atom takes a sign
+pub atom_shorter : (d : ℕ) (u r : List Sign) (x : ℕ) → reads_atom_at d u ≡ took x r → length r < length u
+unfolding reads_atom_at
+atom_shorter d u r x h =
+    shorter kind_of atom_shape (IsAtom (inner SumOf d)) (reads_atom (reads_inside d)) (exact_atom (inner SumOf d) (reads_inside d) (exact_inside d)) refl u r x h

@@ -11,6 +11,7 @@ mod grammar;
 mod laws;
 mod repeats;
 mod stops;
+mod sum_reader;
 mod sums;
 
 pub use combined::{
@@ -22,3 +23,4 @@ pub use laws::{left_over, one_value, stopped, takes_a_token, whole_text};
 pub use repeats::{chain, folded_most, repeated, repeated_most, separated, separated_most};
 pub use stops::{left_place, stop_place, whole_text_within};
 pub use sums::{Sign, Sums, sum_read_exactly};
+pub use sum_reader::{Stop, Why, read_sum};
