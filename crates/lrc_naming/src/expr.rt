@@ -28,6 +28,7 @@ fn named_two(occurrences: &[OccurrenceName], owner: NameText, name: NameText) ->
 
 /// The expression that is written, by numbers; None where a name is unknown, or where a form
 /// stands that is not read yet.
+#[tactic(auto, using(crate::proofs::NamingLemmas::named_expr_equations))]
 pub fn named_expr(alloc: Global, occurrences: &[OccurrenceName], kids: &[Kid], raw: &RawExpr) -> Result<Option<Expr>, Memory>
     requires occurrences { length occurrences.now < 2 ^ 32 }
     requires kids { length kids.now < 2 ^ 32 }

@@ -23,6 +23,7 @@ fn production_place(prods: &[Production], name: NameText) -> Option<usize>
 /// The tree that is written, each production by its number; None where a production's name is
 /// unknown.
 #[cycle(tree)]
+#[tactic(auto, using(crate::proofs::NamingLemmas::named_tree_equations, lrc_meaning::proofs::TreeLemmas::tree_equations))]
 pub fn named_tree(alloc: Global, prods: &[Production], raw: &RawTerm) -> Result<Option<Term>, Memory>
     requires { length prods.now < 2 ^ 32 }
     ensures { IfOk result (λ named. option_map tree named ≡ named_tree prods.now raw.now) }
@@ -44,6 +45,7 @@ pub fn named_tree(alloc: Global, prods: &[Production], raw: &RawTerm) -> Result<
 }
 
 #[cycle(tree)]
+#[tactic(auto, using(crate::proofs::NamingLemmas::named_tree_equations, lrc_meaning::proofs::TreeLemmas::tree_equations))]
 fn named_trees(alloc: Global, prods: &[Production], raw: &[RawTerm]) -> Result<Option<List<Term>>, Memory>
     requires { length prods.now < 2 ^ 32 }
     ensures { IfOk result (λ named. option_map (map tree) named ≡ each_some (map (named_tree prods.now) raw.now)) }
