@@ -1,7 +1,7 @@
 -- What the occurrences of a production are called, and how many there are.
-use Rattle.std.proofs.Common.{◌≡◌, ℕ, zero, suc, ◌+◌, ◌*◌, ◌<◌, ◌≤◌, List, [], ◌∷◌, ◌++◌, map, flat_map, length, get_or, take, Option, Some, None, refl, sym, ap, ◌∙◌, length-append, length-map, arith, All}
+use Rattle.std.proofs.Common.{◌≡◌, ℕ, zero, suc, ◌+◌, ◌*◌, ◌<◌, ◌≤◌, List, [], ◌∷◌, ◌++◌, map, flat_map, length, get_or, take, Option, Some, None, refl, sym, ap, ◌∙◌, length-append, subst, arith, All}
 use Rattle.std.specs.Prelude.{option_map, option_and_then}
-use Rattle.std.proofs.lemmas.List.{flat_map_more, take_more}
+use Rattle.std.proofs.lemmas.List.{length-map, flat_map_more, take_more}
 use Rattle.lrc_base.specs.declared.grammar.Kind.{Kind}
 use Rattle.lrc_base.specs.declared.grammar.Kind.TheVariants as k
 use Rattle.lrc_base.specs.declared.grammar.Attr.{Attr}
@@ -40,13 +40,13 @@ few_of_kids : (sorts : List Sort) (kids : List Kid) → All HasFewAttrs sorts �
     length (flat_map (called_of_kid sorts) kids) ≤ 16 * length kids
 few_of_kids sorts [] few = omega arith
 few_of_kids sorts (kid ∷ kids) few =
-    omega (arith, length-append (map (called_of kid.name) (attrs_of sorts kid.kind)) (flat_map (called_of_kid sorts) kids), length-map (called_of kid.name) (attrs_of sorts kid.kind), few_of_kind sorts kid.kind few, few_of_kids sorts kids few)
+    omega (arith, length-append (map (called_of kid.name) (attrs_of sorts kid.kind)) (flat_map (called_of_kid sorts) kids), length-map (attrs_of sorts kid.kind) (called_of kid.name), few_of_kind sorts kid.kind few, few_of_kids sorts kids few)
 
 -- at most 16 occurrences of the left side, and 16 of each child
 pub length-called_occurrences : (sorts : List Sort) (left : ℕ) (kids : List Kid) → All HasFewAttrs sorts →
     length (called_occurrences sorts left kids) ≤ 16 + 16 * length kids
 length-called_occurrences sorts left kids few =
-    omega (arith, length-append (map called_own (attrs_of_sort sorts left)) (flat_map (called_of_kid sorts) kids), length-map called_own (attrs_of_sort sorts left), few_of_sort sorts left few, few_of_kids sorts kids few)
+    omega (arith, length-append (map called_own (attrs_of_sort sorts left)) (flat_map (called_of_kid sorts) kids), length-map (attrs_of_sort sorts left) called_own, few_of_sort sorts left few, few_of_kids sorts kids few)
 
 -- a list that is named has as many items as before
 module _ {A : Type 0} where
@@ -60,19 +60,35 @@ module _ {A : Type 0} where
   length-each_some (None ∷ xs) ys e = absurd (cc)
   length-each_some (Some x ∷ xs) ys e = cons_length x (each_some xs) (length xs) ys (length-each_some xs) e
 
+pub length-named : {A B : Type 0} (f : A → Option B) (xs : List A) (ys : List B) → each_some (map f xs) ≡ Some ys → length ys ≡ length xs
+length-named f xs ys e = length-each_some (map f xs) ys e ∙ length-map xs f
+
 few_in : (raw : List RawSort) (s : RawSort) (attrs : Option (List Attr)) (t : Sort) → length s.attrs ≤ 16 → attrs ≡ each_some (map (named_attr raw) s.attrs) →
     option_map (λ as'. record { name = s.name; attrs = as' }) attrs ≡ Some t → HasFewAttrs t
 few_in raw s None t few is e = absurd (cc)
 few_in raw s (Some attrs) t few is e =
     let same : attrs ≡ t.attrs = cc in
-    omega (arith, ap length (sym same), length-each_some (map (named_attr raw) s.attrs) attrs (sym is), length-map (named_attr raw) s.attrs)
+    omega (arith, ap length (sym same), length-named (named_attr raw) s.attrs attrs (sym is))
 
--- each of a named list is the name of an item
-each_named : {A B : Type 0} (f : A → Option B) (xs : List A) (ys : List B) (k : ℕ) (d : A) (e : B) → each_some (map f xs) ≡ Some ys → k < length ys →
-    f (get_or xs k d) ≡ Some (get_or ys k e)
-each_named f xs ys k d e h lt = ?
+few_both : (t : Sort) (ts : List Sort) → HasFewAttrs t → All HasFewAttrs ts → All HasFewAttrs (t ∷ ts)
+few_both t ts here rest zero d lt = here
+few_both t ts here rest (suc k) d lt = rest k d (omega arith)
+
+few_joined : (o : Option Sort) (rest : Option (List Sort)) (sorts : List Sort) → ((t : Sort) → o ≡ Some t → HasFewAttrs t) → ((ts : List Sort) → rest ≡ Some ts → All HasFewAttrs ts) → option_and_then (λ t. option_map (λ ts. t ∷ ts) rest) o ≡ Some sorts →
+    All HasFewAttrs sorts
+few_joined None rest sorts one more e = absurd (cc)
+few_joined (Some t) None sorts one more e = absurd (cc)
+few_joined (Some t) (Some ts) sorts one more e =
+    let same : t ∷ ts ≡ sorts = cc in
+    subst (λ l. All HasFewAttrs l) same (few_both t ts (one t refl) (more ts refl))
 
 -- sorts of few attributes are named as such
-pub named_sorts-few : (raw sorts' : List RawSort) (sorts : List Sort) → All (λ (s : RawSort). length s.attrs ≤ 16) sorts' → each_some (map (named_sort raw) sorts') ≡ Some sorts →
+pub named_sorts-few : (raw some : List RawSort) (sorts : List Sort) → All (λ (s : RawSort). length s.attrs ≤ 16) some → each_some (map (named_sort raw) some) ≡ Some sorts →
     All HasFewAttrs sorts
-named_sorts-few raw sorts' sorts few e k d lt = ?
+named_sorts-few raw [] sorts few e =
+    let same : [] ≡ sorts = cc in
+    subst (λ l. All HasFewAttrs l) same (λ k d lt. absurd (omega arith))
+named_sorts-few raw (s ∷ some) sorts few e =
+    few_joined (named_sort raw s) (each_some (map (named_sort raw) some)) sorts (λ t h. few_in raw s (each_some (map (named_attr raw) s.attrs)) t (few 0 s (omega arith)) refl h) (λ ts h. named_sorts-few raw some ts (λ k d lt. few (suc k) d (omega arith)) h) e
+
+pub ruleset occurrence_bounds = (length-called_occurrences)

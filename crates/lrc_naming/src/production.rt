@@ -47,6 +47,7 @@ fn named_equations(alloc: Global, occurrences: &[OccurrenceName], kids: &[Kid], 
 
 /// The production whose left sort and children are known; None where a name is unknown, or where a
 /// form stands that is not read yet.
+#[tactic(auto, using(crate::proofs::OccurrenceLemmas::occurrence_bounds))]
 fn named_with(alloc: Global, sorts: &[Sort], prod: &RawProd, left: u32, kids: List<Kid>) -> Result<Option<Production>, Memory>
     requires attrs { All HasFewAttrs sorts.now }
     requires kids { length kids ≤ 8 }

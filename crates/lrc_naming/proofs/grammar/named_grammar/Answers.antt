@@ -1,0 +1,11 @@
+use Rattle.std.proofs.Common.{◌≤◌, length, All, subst, sym, ◌∙◌}
+use Rattle.lrc_base.specs.declared.raw.RawSort.{RawSort}
+use Rattle.lrc_naming.specs.Called.{HasFewAttrs}
+use Rattle.lrc_naming.proofs.OccurrenceLemmas.{named_sorts-few}
+use Rattle.lrc_naming.proofs.grammar.named_grammar.Goals as goal
+
+pub named_productions-requires-clause-attrs : goal.named_productions-requires-clause-attrs
+named_productions-requires-clause-attrs c =
+    let raw = c.as_slice-raw_sorts.result.now in
+    let few = subst (All (λ (s : RawSort). length s.attrs ≤ 16)) (sym c.as_slice-raw_sorts.ensures) c.requires.attrs in
+    subst (All HasFewAttrs) (sym c.as_slice.ensures) (named_sorts-few raw raw c.in-Some.sorts few (sym c.in_ok-sorts.ensures ∙ c.in-Some.is))
