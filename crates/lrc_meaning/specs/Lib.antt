@@ -7,3 +7,4 @@ pub mod Text
 pub mod Naming
 pub mod Plain
 pub mod Limits
+pub mod Examples
