@@ -29,7 +29,12 @@ fn named_two(occurrences: &[OccurrenceName], owner: NameText, name: NameText) ->
 /// The expression that is written, by numbers; None where a name is unknown, or where a form
 /// stands that is not read yet.
 #[tactic(auto, using(crate::proofs::NamingLemmas::named_expr_equations))]
-pub fn named_expr(alloc: Global, occurrences: &[OccurrenceName], kids: &[Kid], raw: &RawExpr) -> Result<Option<Expr>, Memory>
+pub fn named_expr(
+    alloc: Global,
+    occurrences: &[OccurrenceName],
+    kids: &[Kid],
+    raw: &RawExpr,
+) -> Result<Option<Expr>, Memory>
     requires occurrences { length occurrences.now < 2 ^ 32 }
     requires kids { length kids.now < 2 ^ 32 }
     ensures { IfOk result (λ named. named ≡ named_expr occurrences.now kids.now raw.now) }
@@ -45,12 +50,10 @@ pub fn named_expr(alloc: Global, occurrences: &[OccurrenceName], kids: &[Kid], r
             let Some(right) = named_expr(alloc, occurrences, kids, right.get())? else {
                 return Ok(None);
             };
-            Ok(Some(Expr::Op(
-                *op,
-                Boxed::new(alloc, left)?,
-                Boxed::new(alloc, right)?,
-            )))
+            Ok(Some(Expr::Op(*op, Boxed::new(alloc, left)?, Boxed::new(alloc, right)?)))
         }
-        RawExpr::Bool(_) | RawExpr::Name(_) | RawExpr::If(_, _, _) | RawExpr::Make(_, _) => Ok(None),
+        RawExpr::Bool(_) | RawExpr::Name(_) | RawExpr::If(_, _, _) | RawExpr::Make(_, _) => Ok(
+            None,
+        ),
     }
 }

@@ -1,4 +1,4 @@
-ghost use Rattle.std.specs.Prelude.{◌≡◌, ◌<◌, ◌≤◌, ◌^◌, length, map, All, option_map, IfOk};
+ghost use Rattle.std.specs.Prelude.{◌≡◌, ◌<◌, ◌≤◌, ◌^◌, length, map, All, option_map, IfOk, IfSome};
 ghost use Rattle.lrc_meaning.specs.Naming.{named_sort, named_production, named_grammar, each_some};
 ghost use Rattle.lrc_meaning.specs.Limits.{KeepsLimits};
 ghost use Rattle.lrc_naming.specs.Called.{HasFewAttrs};
@@ -32,7 +32,12 @@ fn named_sorts(alloc: Global, sorts: &[RawSort]) -> Result<Option<List<Sort>>, M
     Ok(Some(named))
 }
 
-fn named_productions(alloc: Global, raw: &[RawSort], sorts: &[Sort], prods: &[RawProd]) -> Result<Option<List<Production>>, Memory>
+fn named_productions(
+    alloc: Global,
+    raw: &[RawSort],
+    sorts: &[Sort],
+    prods: &[RawProd],
+) -> Result<Option<List<Production>>, Memory>
     requires sorts { length raw.now < 2 ^ 32 }
     requires attrs { All HasFewAttrs sorts.now }
     requires kids { All (λ p. length p.kids ≤ 8) prods.now }
@@ -53,13 +58,17 @@ fn named_productions(alloc: Global, raw: &[RawSort], sorts: &[Sort], prods: &[Ra
 /// patterns, and of expressions truth values, names, choices and built trees.
 pub fn named_grammar(alloc: Global, raw: &RawGrammar) -> Result<Option<Numbered>, Memory>
     requires { KeepsLimits raw.now }
-    ensures { IfOk result (λ named. option_map grammar named ≡ named_grammar raw.now) }
+    ensures numbers { IfOk result (λ named. option_map grammar named ≡ named_grammar raw.now) }
+
+    // as many productions as are written
+    ensures within { IfOk result (λ named. IfSome named (λ g. length g.prods ≤ 256)) }
 {
     let raw_sorts = raw.sorts.as_slice();
     let Some(sorts) = named_sorts(alloc, raw_sorts)? else {
         return Ok(None);
     };
-    let Some(prods) = named_productions(alloc, raw_sorts, sorts.as_slice(), raw.prods.as_slice())? else {
+    let Some(prods) = named_productions(alloc, raw_sorts, sorts.as_slice(), raw.prods.as_slice())?
+    else {
         return Ok(None);
     };
     let Some(start) = sort_number(raw_sorts, raw.start) else {

@@ -1,9 +1,7 @@
 ghost use Rattle.std.specs.Prelude.{◌≡◌, ◌<◌, ◌^◌, length, map, IfOk};
 ghost use Rattle.lrc_meaning.specs.Naming.{sort_number, named_kind, named_attr, named_sort, named_kid, each_some};
 
-use lrc_base::{
-    Attr, Kid, Kind, List, Memory, NameText, RawAttr, RawKid, RawKind, RawSort, Sort,
-};
+use lrc_base::{Attr, Kid, Kind, List, Memory, NameText, RawAttr, RawKid, RawKind, RawSort, Sort};
 use std::alloc::Global;
 
 /// The number of the first sort of this name.
@@ -46,7 +44,11 @@ fn named_attr(sorts: &[RawSort], attr: &RawAttr) -> Option<Attr>
     })
 }
 
-fn named_attrs(alloc: Global, sorts: &[RawSort], attrs: &[RawAttr]) -> Result<Option<List<Attr>>, Memory>
+fn named_attrs(
+    alloc: Global,
+    sorts: &[RawSort],
+    attrs: &[RawAttr],
+) -> Result<Option<List<Attr>>, Memory>
     requires { length sorts.now < 2 ^ 32 }
     ensures { IfOk result (λ named. named ≡ each_some (map (named_attr sorts.now) attrs.now)) }
 {
@@ -86,7 +88,11 @@ fn named_kid(sorts: &[RawSort], kid: &RawKid) -> Option<Kid>
 }
 
 /// The children that are written, in order; None where a kind names no sort.
-pub fn named_kids(alloc: Global, sorts: &[RawSort], kids: &[RawKid]) -> Result<Option<List<Kid>>, Memory>
+pub fn named_kids(
+    alloc: Global,
+    sorts: &[RawSort],
+    kids: &[RawKid],
+) -> Result<Option<List<Kid>>, Memory>
     requires { length sorts.now < 2 ^ 32 }
     ensures { IfOk result (λ named. named ≡ each_some (map (named_kid sorts.now) kids.now)) }
 {

@@ -2,12 +2,15 @@
 //! attribute and child by its number.
 #![tactic(auto)]
 
+mod expr;
+mod grammar;
 mod kind;
 mod occurrence;
-mod expr;
 mod production;
-mod grammar;
 mod tree;
 
 pub use grammar::{Numbered, named_grammar};
 pub use tree::named_tree;
+
+#[cfg(test)]
+mod tests;

@@ -69,7 +69,11 @@ fn attrs_of(sorts: &[Sort], kind: Kind) -> &[Attr]
     }
 }
 
-fn push_called(called: &mut List<OccurrenceName>, owner: Option<NameText>, attrs: &[Attr]) -> Result<(), Memory>
+fn push_called(
+    called: &mut List<OccurrenceName>,
+    owner: Option<NameText>,
+    attrs: &[Attr],
+) -> Result<(), Memory>
     ensures { OnOk result (called.new ≡ called.old ++ map (called_by owner) attrs.now) }
 {
     for attr in attrs {
@@ -81,7 +85,12 @@ fn push_called(called: &mut List<OccurrenceName>, owner: Option<NameText>, attrs
 
 /// What the occurrences of a production are called, by number: the attributes of the left side,
 /// then those of each symbol among the children.
-pub fn called_occurrences(alloc: Global, sorts: &[Sort], left: u32, kids: &[Kid]) -> Result<List<OccurrenceName>, Memory>
+pub fn called_occurrences(
+    alloc: Global,
+    sorts: &[Sort],
+    left: u32,
+    kids: &[Kid],
+) -> Result<List<OccurrenceName>, Memory>
     ensures { IfOk result (λ called. called ≡ called_occurrences sorts.now left kids.now) }
 {
     let mut called = List::new(alloc);
@@ -93,7 +102,11 @@ pub fn called_occurrences(alloc: Global, sorts: &[Sort], left: u32, kids: &[Kid]
 }
 
 /// The number of the first occurrence that is called so.
-pub fn occurrence_number(occurrences: &[OccurrenceName], owner: Option<NameText>, attr: NameText) -> Option<u32>
+pub fn occurrence_number(
+    occurrences: &[OccurrenceName],
+    owner: Option<NameText>,
+    attr: NameText,
+) -> Option<u32>
     requires { length occurrences.now < 2 ^ 32 }
     ensures { result ≡ occurrence_number occurrences.now owner attr }
 {
@@ -101,7 +114,11 @@ pub fn occurrence_number(occurrences: &[OccurrenceName], owner: Option<NameText>
     Some(place as u32)
 }
 
-fn occurrence_place(occurrences: &[OccurrenceName], owner: Option<NameText>, attr: NameText) -> Option<usize>
+fn occurrence_place(
+    occurrences: &[OccurrenceName],
+    owner: Option<NameText>,
+    attr: NameText,
+) -> Option<usize>
     ensures { result ≡ occurrence_number occurrences.now owner attr }
 {
     occurrences

@@ -8,7 +8,12 @@ use crate::occurrence::{OccurrenceName, called_occurrences, occurrence_number};
 use lrc_base::{Equation, Kid, List, Memory, Production, RawItem, RawProd, RawSort, Sort};
 use std::alloc::Global;
 
-fn named_equation(alloc: Global, occurrences: &[OccurrenceName], kids: &[Kid], item: &RawItem) -> Result<Option<Equation>, Memory>
+fn named_equation(
+    alloc: Global,
+    occurrences: &[OccurrenceName],
+    kids: &[Kid],
+    item: &RawItem,
+) -> Result<Option<Equation>, Memory>
     requires occurrences { length occurrences.now < 2 ^ 32 }
     requires kids { length kids.now < 2 ^ 32 }
     ensures { IfOk result (λ named. named ≡ named_equation occurrences.now kids.now item.now) }
@@ -30,7 +35,12 @@ fn named_equation(alloc: Global, occurrences: &[OccurrenceName], kids: &[Kid], i
     }
 }
 
-fn named_equations(alloc: Global, occurrences: &[OccurrenceName], kids: &[Kid], items: &[RawItem]) -> Result<Option<List<Equation>>, Memory>
+fn named_equations(
+    alloc: Global,
+    occurrences: &[OccurrenceName],
+    kids: &[Kid],
+    items: &[RawItem],
+) -> Result<Option<List<Equation>>, Memory>
     requires occurrences { length occurrences.now < 2 ^ 32 }
     requires kids { length kids.now < 2 ^ 32 }
     ensures { IfOk result (λ named. named ≡ each_some (map (named_equation occurrences.now kids.now) items.now)) }
@@ -48,13 +58,25 @@ fn named_equations(alloc: Global, occurrences: &[OccurrenceName], kids: &[Kid], 
 /// The production whose left sort and children are known; None where a name is unknown, or where a
 /// form stands that is not read yet.
 #[tactic(auto, using(crate::proofs::OccurrenceLemmas::occurrence_bounds))]
-fn named_with(alloc: Global, sorts: &[Sort], prod: &RawProd, left: u32, kids: List<Kid>) -> Result<Option<Production>, Memory>
+fn named_with(
+    alloc: Global,
+    sorts: &[Sort],
+    prod: &RawProd,
+    left: u32,
+    kids: List<Kid>,
+) -> Result<Option<Production>, Memory>
     requires attrs { All HasFewAttrs sorts.now }
     requires kids { length kids ≤ 8 }
     ensures { IfOk result (λ named. named ≡ named_with sorts.now prod.now left kids) }
 {
     let occurrences = called_occurrences(alloc, sorts, left, kids.as_slice())?;
-    let Some(equations) = named_equations(alloc, occurrences.as_slice(), kids.as_slice(), prod.items.as_slice())? else {
+    let Some(equations) = named_equations(
+        alloc,
+        occurrences.as_slice(),
+        kids.as_slice(),
+        prod.items.as_slice(),
+    )?
+    else {
         return Ok(None);
     };
     Ok(Some(Production {
@@ -69,7 +91,12 @@ fn named_with(alloc: Global, sorts: &[Sort], prod: &RawProd, left: u32, kids: Li
 
 /// The production that is written, by numbers; None where a name is unknown, or where a form
 /// stands that is not read yet.
-pub fn named_production(alloc: Global, raw: &[RawSort], sorts: &[Sort], prod: &RawProd) -> Result<Option<Production>, Memory>
+pub fn named_production(
+    alloc: Global,
+    raw: &[RawSort],
+    sorts: &[Sort],
+    prod: &RawProd,
+) -> Result<Option<Production>, Memory>
     requires sorts { length raw.now < 2 ^ 32 }
     requires attrs { All HasFewAttrs sorts.now }
     requires kids { length prod.now.kids ≤ 8 }

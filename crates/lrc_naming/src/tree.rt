@@ -24,7 +24,11 @@ fn production_place(prods: &[Production], name: NameText) -> Option<usize>
 /// unknown.
 #[cycle(tree)]
 #[tactic(auto, using(crate::proofs::NamingLemmas::named_tree_equations, lrc_meaning::proofs::TreeLemmas::tree_equations))]
-pub fn named_tree(alloc: Global, prods: &[Production], raw: &RawTerm) -> Result<Option<Term>, Memory>
+pub fn named_tree(
+    alloc: Global,
+    prods: &[Production],
+    raw: &RawTerm,
+) -> Result<Option<Term>, Memory>
     requires { length prods.now < 2 ^ 32 }
     ensures { IfOk result (λ named. option_map tree named ≡ named_tree prods.now raw.now) }
 {
@@ -46,7 +50,11 @@ pub fn named_tree(alloc: Global, prods: &[Production], raw: &RawTerm) -> Result<
 
 #[cycle(tree)]
 #[tactic(auto, using(crate::proofs::NamingLemmas::named_tree_equations, lrc_meaning::proofs::TreeLemmas::tree_equations))]
-fn named_trees(alloc: Global, prods: &[Production], raw: &[RawTerm]) -> Result<Option<List<Term>>, Memory>
+fn named_trees(
+    alloc: Global,
+    prods: &[Production],
+    raw: &[RawTerm],
+) -> Result<Option<List<Term>>, Memory>
     requires { length prods.now < 2 ^ 32 }
     ensures { IfOk result (λ named. option_map (map tree) named ≡ each_some (map (named_tree prods.now) raw.now)) }
 {
