@@ -1,4 +1,3 @@
-use Rattle.std.proofs.Common.{List}
 use Rattle.lrc_meaning.specs.Naming.{named_attr}
 use Rattle.lrc_naming.proofs.ListLemmas.{NamesFirst}
 use Rattle.lrc_naming.proofs.kind.named_attrs.Given as goal

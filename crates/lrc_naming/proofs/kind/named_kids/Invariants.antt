@@ -1,4 +1,3 @@
-use Rattle.std.proofs.Common.{List}
 use Rattle.lrc_meaning.specs.Naming.{named_kid}
 use Rattle.lrc_naming.proofs.ListLemmas.{NamesFirst}
 use Rattle.lrc_naming.proofs.kind.named_kids.Given as goal
