@@ -1,0 +1,6 @@
+//! Well-formed grammars, and terms that fit their productions.
+#![tactic(auto)]
+
+mod fitting;
+
+pub use fitting::{fits, is_within};
