@@ -20,7 +20,7 @@ next_fits prods terms kids i t kid h k e f =
     ap (λ ts. each_fits prods (row (map tree ts)) (drop i kids)) (next_left terms i t h e)
     ∙ ap (λ ks. each_fits prods (row (map tree (t ∷ drop (i + 1) terms))) ks) (next_left kids i kid k f)
 
-and_false : (b : Bool) → (b && false) ≡ false
+pub and_false : (b : Bool) → (b && false) ≡ false
 and_false true = refl
 and_false false = refl
 

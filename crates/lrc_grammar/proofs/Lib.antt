@@ -1,1 +1,3 @@
 pub mod FittingLemmas
+pub mod KindLemmas
+pub mod NameLemmas
