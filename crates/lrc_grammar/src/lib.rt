@@ -3,10 +3,14 @@
 
 mod checks;
 mod fitting;
+mod grammar;
 mod kinds;
 mod names;
 mod occurrences;
+mod plain;
+mod production_checks;
 
 pub use fitting::{fits, is_within, same_kind};
-pub use kinds::expression_kind;
-pub use occurrences::{Occurrence, occurrences_of};
+pub use grammar::Grammar;
+pub use kinds::{expression_kind, is_sort};
+pub use occurrences::{Occurrence, attrs_of, attrs_of_sort, occurrences_of};
