@@ -1,11 +1,11 @@
 -- Rows of trees, item by item.
-use Rattle.std.proofs.Common.{◌≡◌, ℕ, suc, ◌+◌, ◌<◌, ◌≢◌, Bool, true, false, ◌&&◌, List, [], ◌∷◌, map, length, drop, max, get_or, slice_get, Option, Some, None, refl, sym, ap, ◌∙◌, add-one, arith, drop-cons}
+use Rattle.std.proofs.Common.{◌≡◌, ℕ, suc, ◌+◌, ◌<◌, ◌≢◌, Bool, true, false, ◌&&◌, List, [], ◌∷◌, map, length, drop, max, get_or, slice_get, Some, None, refl, sym, ap, ◌∙◌, add-one, drop-cons}
 use Rattle.lrc_base.specs.declared.grammar.Kind.{Kind}
 use Rattle.lrc_base.specs.declared.grammar.Kind.TheVariants as k
 use Rattle.lrc_base.specs.declared.grammar.Kid.{Kid}
 use Rattle.lrc_base.specs.declared.grammar.Production.{Production}
 use Rattle.lrc_base.specs.declared.term.Term.{Term}
-use Rattle.lrc_meaning.specs.Tree.{Tree, Trees, node, tree, same_kind, row, fits, each_fits, tree_height, tallest}
+use Rattle.lrc_meaning.specs.Tree.{Trees, node, tree, same_kind, row, fits, each_fits, tree_height, tallest}
 
 -- the first of the items that are left
 pub next_left : {A : Type 0} (xs : List A) (i : ℕ) (x : A) → i < length xs → x ≡ get_or xs i x → drop i xs ≡ x ∷ drop (i + 1) xs
@@ -30,7 +30,7 @@ pub other_number : (prods : List Production) (terms : List Term) (kids : List Ki
 other_number prods [] [] h = absurd (h refl)
 other_number prods [] (kid ∷ kids) h = refl
 other_number prods (t ∷ terms) [] h = refl
-other_number prods (t ∷ terms) (kid ∷ kids) h = 
+other_number prods (t ∷ terms) (kid ∷ kids) h =
     rw (other_number prods terms kids (λ e. h (ap suc e))) (and_false (fits prods (tree t) kid.kind))
 
 -- the highest of what is left

@@ -1,14 +1,13 @@
 -- Kinds of expressions, and of rows of them, item by item.
-use Rattle.std.proofs.Common.{◌≡◌, ℕ, suc, ◌+◌, ◌<◌, ◌≢◌, Bool, true, false, ◌&&◌, List, [], ◌∷◌, map, length, drop, cond, get_or, slice_get, Option, Some, None, refl, sym, ap, ◌∙◌, add-one, arith, drop-cons}
+use Rattle.std.proofs.Common.{◌≡◌, ℕ, suc, ◌+◌, ◌<◌, ◌≢◌, Bool, false, ◌&&◌, List, [], ◌∷◌, map, length, drop, cond, get_or, slice_get, Some, None, refl, ap, ◌∙◌}
 use Rattle.std.specs.Option.{option_map_or}
-use Rattle.lrc_base.specs.declared.grammar.Kind.{Kind}
 use Rattle.lrc_base.specs.declared.grammar.Kind.TheVariants as k
 use Rattle.lrc_base.specs.declared.grammar.Kid.{Kid}
 use Rattle.lrc_base.specs.declared.grammar.Production.{Production}
 use Rattle.lrc_base.specs.declared.expr.Expr.{Expr}
 use Rattle.lrc_meaning.specs.Tree.{same_kind}
-use Rattle.lrc_meaning.specs.Expression.{Expression, Expressions, choice, make, expression, expression_row}
-use Rattle.lrc_meaning.specs.Grammar.{Occurrence, expression_kind, have_kinds, common_kind, of_kind}
+use Rattle.lrc_meaning.specs.Expression.{Expressions, make, expression, expression_row}
+use Rattle.lrc_meaning.specs.Grammar.{Occurrence, expression_kind, have_kinds}
 use Rattle.lrc_grammar.proofs.FittingLemmas.{next_left, and_false}
 
 module _ (prods : List Production) (occurrences : List Occurrence) (kids : List Kid) where

@@ -58,8 +58,7 @@ fn are_productions_right(
 fn is_start_right(sorts: &[Sort], start: u32) -> bool
     ensures { result ≡ is_start_right sorts.now start }
 {
-    (start as usize) < sorts.len()
-        && are_synthesised(attrs_of_sort(sorts, start))
+    (start as usize) < sorts.len() && are_synthesised(attrs_of_sort(sorts, start))
 }
 
 /// Whether none of the attributes is inherited.
@@ -80,9 +79,11 @@ pub fn is_well_formed(
 {
     let names_of_sorts = sort_names(alloc, sorts)?;
     let names_of_prods = production_names(alloc, prods)?;
-    Ok(all_distinct(names_of_sorts.as_slice())
-        && are_sorts_right(alloc, sorts)?
-        && all_distinct(names_of_prods.as_slice())
-        && are_productions_right(alloc, sorts, prods)?
-        && is_start_right(sorts, start))
+    Ok(
+        all_distinct(names_of_sorts.as_slice())
+            && are_sorts_right(alloc, sorts)?
+            && all_distinct(names_of_prods.as_slice())
+            && are_productions_right(alloc, sorts, prods)?
+            && is_start_right(sorts, start),
+    )
 }

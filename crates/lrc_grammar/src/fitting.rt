@@ -11,7 +11,6 @@ pub fn same_kind(a: Kind, b: Kind) -> bool
     a == b
 }
 
-
 /// Whether the term is of this kind, and each of its nodes has children of its production's kinds.
 #[cycle(fits)]
 #[tactic(auto, using(lrc_meaning::proofs::TreeLemmas::tree_equations, crate::proofs::FittingLemmas::fitting))]

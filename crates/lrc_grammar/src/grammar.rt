@@ -13,7 +13,7 @@ pub struct Grammar {
     pub sorts: List<Sort>,
     pub prods: List<Production>,
     pub start: u32,
-    ghost ok: { IsTrue (is_well_formed (record { sorts = sorts; prods = prods; start = start })) },
+    pub ghost ok: { IsTrue (is_well_formed (record { sorts = sorts; prods = prods; start = start })) },
 }
 
 impl Grammar {

@@ -14,3 +14,6 @@ pub use fitting::{fits, is_within, same_kind};
 pub use grammar::Grammar;
 pub use kinds::{expression_kind, is_sort};
 pub use occurrences::{Occurrence, attrs_of, attrs_of_sort, occurrences_of};
+
+#[cfg(test)]
+mod tests;

@@ -133,11 +133,7 @@ fn push_kids(all: &mut List<Occurrence>, sorts: &[Sort], kids: &[Kid]) -> Result
     Ok(())
 }
 
-fn push_extra(
-    all: &mut List<Occurrence>,
-    sorts: &[Sort],
-    extra: &Extra,
-) -> Result<(), Memory>
+fn push_extra(all: &mut List<Occurrence>, sorts: &[Sort], extra: &Extra) -> Result<(), Memory>
     ensures { OnOk result (all.new ≡ all.old ++ extra_occurrences sorts.now extra.now) }
 {
     all.push(Occurrence {
@@ -151,11 +147,7 @@ fn push_extra(
     Ok(())
 }
 
-fn push_extras(
-    all: &mut List<Occurrence>,
-    sorts: &[Sort],
-    extras: &[Extra],
-) -> Result<(), Memory>
+fn push_extras(all: &mut List<Occurrence>, sorts: &[Sort], extras: &[Extra]) -> Result<(), Memory>
     ensures { OnOk result (all.new ≡ all.old ++ flat_map (extra_occurrences sorts.now) extras.now) }
 {
     for extra in extras {

@@ -99,8 +99,7 @@ fn has_equation(production: &Production, occurrences: &[Occurrence], number: usi
 {
     match at(occurrences, number) {
         Some(occurrence) => {
-            !occurrence.is_defined()
-                || equation_count(production.equations.as_slice(), number) == 1
+            !occurrence.is_defined() || equation_count(production.equations.as_slice(), number) == 1
         }
         None => true,
     }
@@ -151,11 +150,13 @@ pub fn is_production_right(
 {
     let occurrences = occurrences_of(alloc, sorts, production)?;
     let names = names_of(alloc, sorts, production)?;
-    Ok((production.left as usize) < sorts.len()
-        && are_kids_known(sorts, production.kids.as_slice())
-        && are_extras_right(sorts, production.extras.as_slice())
-        && all_distinct(names.as_slice())
-        && are_equations_right(prods, production, occurrences.as_slice())
-        && is_defined_once(production, occurrences.as_slice())
-        && is_pattern_right(production))
+    Ok(
+        (production.left as usize) < sorts.len()
+            && are_kids_known(sorts, production.kids.as_slice())
+            && are_extras_right(sorts, production.extras.as_slice())
+            && all_distinct(names.as_slice())
+            && are_equations_right(prods, production, occurrences.as_slice())
+            && is_defined_once(production, occurrences.as_slice())
+            && is_pattern_right(production),
+    )
 }
