@@ -1,0 +1,9 @@
+//! Evaluation of plain trees from scratch: each node's attributes once, from the leaves to the root.
+//!
+//! A grammar is plain where each attribute is a synthesised number and each equation's expression is a sum.
+#![tactic(auto)]
+
+mod scratch;
+mod sums;
+
+pub use scratch::attributes;
