@@ -1,9 +1,12 @@
 -- What a sum reads is there, and what the code answers is the sum.
-use Rattle.std.proofs.Common.{◌≡◌, ℕ, zero, suc, ◌+◌, ◌-◌, ◌<◌, ◌≤◌, Bool, true, false, cond, ℤ, ◌+ℤ◌, List, [], ◌∷◌, map, length, get_or, ◌⊎◌, inl, inr, Option, Some, None, IsSome, slice_get, refl, sym, ap, ◌∙◌, subst, arith}
-use Rattle.std.specs.Prelude.{nat_lt, option_map, option_and_then}
+use Rattle.std.proofs.Common.{◌≡◌, ℕ, zero, suc, ◌+◌, ◌-◌, ◌<◌, ◌≤◌, Bool, true, false, cond, ℤ, pos, ◌+ℤ◌, ◌==◌, add-one, List, [], ◌∷◌, ◌++◌, map, length, get_or, ◌⊎◌, inl, inr, Option, Some, None, IsSome, slice_get, refl, sym, ap, ◌∙◌, subst, arith}
+use Rattle.std.specs.Prelude.{nat_lt, option_map, option_and_then, unwrap_or}
 use Rattle.std.specs.Int.{int_wrap, w64}
 use Rattle.std.proofs.lemmas.Bool.{false≢true, ltb-false, le-ltb, cond-false}
 use Rattle.std.proofs.lemmas.Option.{slice_get_within}
+use Rattle.std.specs.List.{find}
+use Rattle.lrc_base.specs.declared.grammar.Equation.{Equation}
+use Rattle.lrc_base.specs.declared.grammar.Production.{Production}
 use Rattle.lrc_base.specs.declared.expr.Op.{Op}
 use Rattle.lrc_base.specs.declared.expr.Expr.{Expr}
 use Rattle.lrc_base.specs.declared.expr.Expr.TheVariants as v
@@ -14,7 +17,7 @@ use Rattle.lrc_meaning.specs.Expression.{Expression, literal, occurrence, leaf, 
 use Rattle.lrc_meaning.specs.Plain.{is_add}
 use Rattle.lrc_meaning.proofs.TreeLemmas.{tree-Int, tree-Bool, tree-Name, tree-Node}
 use Rattle.lrc_meaning.proofs.ExpressionLemmas.{expression-Int, expression-Bool, expression-Name, expression-Occ, expression-Leaf, expression-Op, expression-If, expression-Make}
-use Rattle.lrc_scratch.specs.Sums.{int_at, added, sum_of}
+use Rattle.lrc_scratch.specs.Sums.{int_at, added, sum_of, attribute_sum, first_sums}
 use Rattle.lrc_scratch.proofs.ListLemmas.{some_of, is_some_of}
 
 -- a child that is read is there
@@ -112,3 +115,20 @@ not_sum own symbols kids e (inl h) = (literal (bool h.0), ap expression h.1 ∙ 
 not_sum own symbols kids e (inr (inl h)) = (literal (name h.0), ap expression h.1 ∙ expression-Name h.0, refl)
 not_sum own symbols kids e (inr (inr (inl h))) = (choice (expression h.0) (expression h.1) (expression h.2), ap expression h.3 ∙ expression-If h.0 h.1 h.2, refl)
 not_sum own symbols kids e (inr (inr (inr h))) = (make h.0 (expression_row (map expression h.1)), ap expression h.2 ∙ expression-Make h.0 h.1, refl)
+
+and_then_found : {X Y : Type 0} (f : X → Option Y) (o : Option X) → IsSome (option_and_then f o) → IsSome o
+and_then_found f None h = absurd (false≢true h)
+and_then_found f (Some x) h = refl
+
+module _ (production : Production) (own : ℕ) (symbols : List ℤ) (kids : Trees) (n : ℕ) where
+  -- an attribute's sum is that of its equation
+  pub attribute_sum-at : (e : Equation) → find (λ (e : Equation). e.target == n) production.equations ≡ Some e
+      → attribute_sum production own symbols kids n ≡ sum_of own symbols kids (expression e.expr)
+  attribute_sum-at e h = ap (option_and_then (λ (e : Equation). sum_of own symbols kids (expression e.expr))) h
+
+  pub attribute_found : IsSome (attribute_sum production own symbols kids n) → IsSome (find (λ (e : Equation). e.target == n) production.equations)
+  attribute_found h = and_then_found (λ (e : Equation). sum_of own symbols kids (expression e.expr)) (find (λ (e : Equation). e.target == n) production.equations) h
+
+  pub first_sums-more : (v : ℤ) → attribute_sum production own symbols kids n ≡ Some v
+      → first_sums production own symbols kids (n + 1) ≡ first_sums production own symbols kids n ++ v ∷ []
+  first_sums-more v h = ap (first_sums production own symbols kids) (add-one n) ∙ ap (λ o. first_sums production own symbols kids n ++ unwrap_or o (pos 0) ∷ []) h
