@@ -1,2 +1,4 @@
 pub mod ListLemmas
 pub mod SumLemmas
+pub mod GrammarLemmas
+pub mod ValueLemmas
