@@ -2,3 +2,5 @@ pub mod ListLemmas
 pub mod SumLemmas
 pub mod GrammarLemmas
 pub mod ValueLemmas
+pub mod TermLemmas
+pub mod DecorationLemmas
