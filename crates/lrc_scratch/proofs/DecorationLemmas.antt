@@ -37,7 +37,7 @@ part (node p kids) d rest = symbol d rest
 zero_max : (n : ℕ) → n ≡ max 0 n
 zero_max n = omega arith
 
-max_zero : (n : ℕ) → max n 0 ≡ n
+pub max_zero : (n : ℕ) → max n 0 ≡ n
 max_zero n = omega arith
 
 module _ (sorts : List Sort) (prods : List Production) where

@@ -4,3 +4,4 @@ pub mod GrammarLemmas
 pub mod ValueLemmas
 pub mod TermLemmas
 pub mod DecorationLemmas
+pub mod AttributionLemmas

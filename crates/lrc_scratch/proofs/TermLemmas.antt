@@ -1,5 +1,5 @@
 -- The values of a term's attributes, a node or a child at a time.
-use Rattle.std.proofs.Common.{◌≡◌, ℕ, zero, suc, ◌+◌, ◌<◌, ◌≤◌, Bool, true, false, ◌&&◌, ℤ, List, [], ◌∷◌, ◌++◌, map, length, take, get_or, Option, Some, None, IsSome, IsTrue, slice_get, refl, sym, ap, ◌∙◌, subst, arith, append-nil, append_assoc}
+use Rattle.std.proofs.Common.{◌≡◌, ℕ, zero, suc, ◌+◌, ◌<◌, ◌≤◌, Bool, true, false, ◌&&◌, ℤ, List, [], ◌∷◌, ◌++◌, map, length, take, get_or, ◌⊎◌, inl, inr, Option, Some, None, IsSome, IsTrue, slice_get, refl, sym, ap, ◌∙◌, subst, arith, append-nil, append_assoc}
 use Rattle.std.specs.Option.{option_map_or}
 use Rattle.std.proofs.lemmas.Bool.{and_parts, false≢true, ltb-true}
 use Rattle.std.proofs.lemmas.List.{take_more, map-append}
@@ -11,7 +11,7 @@ use Rattle.lrc_base.specs.declared.term.Term.{Term}
 use Rattle.lrc_base.specs.declared.term.Term.TheVariants as v
 use Rattle.lrc_meaning.specs.Tree.{Tree, int, bool, name, node, Trees, none, more, row, tree, is_left, kids_of, fits, each_fits}
 use Rattle.lrc_meaning.specs.Grammar.{attrs_of_sort}
-use Rattle.lrc_meaning.proofs.TreeLemmas.{tree-Node}
+use Rattle.lrc_meaning.proofs.TreeLemmas.{tree-Int, tree-Bool, tree-Name, tree-Node}
 use Rattle.lrc_scratch.specs.Sums.{attribute_sum, first_sums, values_at, values_below, is_summable}
 use Rattle.lrc_scratch.proofs.GrammarLemmas.{is_left-kind, is_plain_right}
 use Rattle.lrc_scratch.proofs.ValueLemmas.{values_at-node, attribute_sum_there}
@@ -69,3 +69,10 @@ module _ (sorts : List Sort) (prods : List Production) (summable : IsTrue (is_su
 
 pub left_there : (sorts : List Sort) (prods : List Production) → IsTrue (is_summable sorts prods) → (p : ℕ) (q : Production) → slice_get prods p ≡ Some q → q.left < length sorts
 left_there sorts prods h p q e = ltb-true q.left (length sorts) (is_plain_right sorts prods h p q e).left_there
+
+-- a leaf has no attributes
+pub leaf_values : (sorts : List Sort) (prods : List Production) (t : Term)
+    → ((x : ℤ) × (t ≡ v.Int x)) ⊎ (((x : Bool) × (t ≡ v.Bool x)) ⊎ ((x : List ℕ) × (t ≡ v.Name x))) → values_at sorts prods (tree t) ≡ []
+leaf_values sorts prods t (inl h) = ap (values_at sorts prods) (ap tree h.1 ∙ tree-Int h.0)
+leaf_values sorts prods t (inr (inl h)) = ap (values_at sorts prods) (ap tree h.1 ∙ tree-Bool h.0)
+leaf_values sorts prods t (inr (inr h)) = ap (values_at sorts prods) (ap tree h.1 ∙ tree-Name h.0)

@@ -4,7 +4,7 @@ use Rattle.std.proofs.lemmas.Option.{slice_get_read, slice_get_within}
 use Rattle.std.proofs.lemmas.Result.{IfOk-weaker}
 use Rattle.lrc_meaning.specs.Tree.{row, tree, fits, each_fits, kids_of}
 use Rattle.lrc_scratch.proofs.GrammarLemmas.{is_left-kind}
-use Rattle.lrc_scratch.proofs.TermLemmas.{node_fits, kid_fits, values_below-more, node_sums_there, node_sums_are, left_there}
+use Rattle.lrc_scratch.proofs.TermLemmas.{node_fits, kid_fits, values_below-more, node_sums_there, node_sums_are, left_there, leaf_values}
 use Rattle.lrc_scratch.specs.Sums.{values_below}
 use Rattle.lrc_base.specs.declared.term.Term.TheVariants as v
 use Rattle.lrc_scratch.proofs.scratch.+evaluate.Goals as goal
@@ -73,3 +73,6 @@ kid_values-loop-at-preserved t c =
     let l : c.loop-at.at < length c.args.kids.now = omega arith in
     values_below-more c.args.sorts.now c.args.prods.now c.args.kids.now c.loop-at.at c.index-kids-at.result c.loop-at.values c.append.new.self c.in_ok-tree_values.field-0
     l c.index-kids-at.is c.loop-at.invariant (c.in_ok-tree_values.ensures) (c.in_ok-append.ensures)
+
+pub tree_values-returns-in-Int : goal.tree_values-returns-in-Int
+tree_values-returns-in-Int t c = c.new.ensures ∙ sym (leaf_values c.args.sorts.now c.args.prods.now c.args.term.now c.in-Int.is)
