@@ -63,7 +63,7 @@ module _ (sorts : List Sort) (prods : List Production) (q : Production) (right :
       (expression e.expr) n s
 
 module _ (g : Grammar) (summable : IsTrue (is_summable g.sorts g.prods)) where
-  length-trees_at : (p : ℕ) (kids : Trees) (q : Production) → slice_get g.prods p ≡ Some q
+  pub length-trees_at : (p : ℕ) (kids : Trees) (q : Production) → slice_get g.prods p ≡ Some q
       → length (trees_of (values_at g.sorts g.prods (node p kids))) ≡ length (attrs_of_sort g.sorts q.left)
   length-trees_at p kids q e =
       length-map (values_at g.sorts g.prods (node p kids)) (λ (v : ℤ). int v)

@@ -5,3 +5,4 @@ pub mod ValueLemmas
 pub mod TermLemmas
 pub mod DecorationLemmas
 pub mod AttributionLemmas
+pub mod UniqueLemmas
