@@ -1,9 +1,9 @@
 -- The values of a tree's attributes are an attribution, and the only one.
-use Rattle.std.proofs.Common.{◌≡◌, ℕ, zero, suc, ◌+◌, ◌-◌, ◌<◌, ◌≤◌, ◌==◌, max, Bool, true, false, not, ◌&&◌, cond, ℤ, List, [], ◌∷◌, ◌++◌, map, length, Option, Some, None, IsSome, IsTrue, slice_get, refl, sym, ap, ◌∙◌, subst, arith, append-nil}
+use Rattle.std.proofs.Common.{◌≡◌, ℕ, suc, ◌+◌, ◌-◌, ◌<◌, ◌≤◌, ◌==◌, Bool, true, not, ◌&&◌, ℤ, List, [], ◌∷◌, ◌++◌, length, Some, IsTrue, slice_get, refl, sym, ap, ◌∙◌, subst, arith, append-nil}
 use Rattle.std.specs.Option.{option_map, option_map_or, option_and_then}
-use Rattle.std.specs.List.{find, list_all, AllByRecursion}
+use Rattle.std.specs.List.{list_all}
 use Rattle.std.proofs.lemmas.Bool.{and_parts, false≢true, eq-eqb, not-true, cond-false}
-use Rattle.std.proofs.lemmas.Option.{none-some, same_Some, slice_get-map}
+use Rattle.std.proofs.lemmas.Option.{slice_get-map}
 use Rattle.std.proofs.lemmas.List.{length-map}
 use Rattle.lrc_base.specs.declared.grammar.Kind.{Kind}
 use Rattle.lrc_base.specs.declared.grammar.Kind.TheVariants as k
@@ -12,12 +12,12 @@ use Rattle.lrc_base.specs.declared.grammar.Sort.{Sort}
 use Rattle.lrc_base.specs.declared.grammar.Kid.{Kid}
 use Rattle.lrc_base.specs.declared.grammar.Equation.{Equation}
 use Rattle.lrc_base.specs.declared.grammar.Production.{Production}
-use Rattle.lrc_meaning.specs.Tree.{Tree, int, bool, name, node, Trees, none, more, is_left, kids_of, fits, each_fits, same_kind, tree_height, tallest}
+use Rattle.lrc_meaning.specs.Tree.{Tree, int, bool, name, node, Trees, none, more, is_left, kids_of, fits, each_fits, same_kind, tree_height}
 use Rattle.lrc_meaning.specs.Expression.{expression, value_of}
 use Rattle.lrc_meaning.specs.Grammar.{Grammar, attrs_of_sort, is_well_formed}
 use Rattle.lrc_meaning.specs.Plain.{is_plain, is_plain_attr}
-use Rattle.lrc_meaning.specs.Attribution.{Decorated, at_node, Parts, end, value, symbol, kid_values, occurrence_values, leaf_at, kids_agree, extras_agree, Holds, IsNodeRight, IsNode, IsRight, AreRight, IsAttribution, height, highest, synthesised, Attributes}
-use Rattle.lrc_scratch.specs.Sums.{sum_of, attribute_sum, first_sums, values_at, values_below, is_summable}
+use Rattle.lrc_meaning.specs.Attribution.{Parts, end, kid_values, occurrence_values, leaf_at, extras_agree, Holds, IsNodeRight, AreRight, IsAttribution, highest, synthesised, Attributes}
+use Rattle.lrc_scratch.specs.Sums.{sum_of, first_sums, values_at, values_below, is_summable}
 use Rattle.lrc_scratch.proofs.ListLemmas.{some_of, slice_get-left, slice_get-right, find-one, all_from_places}
 use Rattle.lrc_scratch.proofs.GrammarLemmas.{is_left-kind, IsPlainRight, is_plain_right, equation_at, one_equation, attrs_of_sort-plain}
 use Rattle.lrc_scratch.proofs.ValueLemmas.{values_at-node, length-first_sums, length-values_at, equation_sum_there}
@@ -56,9 +56,9 @@ module _ (sorts : List Sort) (prods : List Production) (q : Production) (right :
   equation_value values count e n s =
       sum_is_value (occurrence_values values (parts sorts prods kids) end) (leaf_at (parts sorts prods kids)) own symbols kids
       (λ i m l h.
-          slice_get-right values (kid_values (parts sorts prods kids) ++ []) i (i - own) (subst (λ w. i ≡ w + (i - own)) (sym count) (omega arith))
-          ∙ ap (λ xs. slice_get xs (i - own)) (append-nil (kid_values (parts sorts prods kids)) ∙ kid_values_parts sorts prods kids)
-          ∙ slice_get-map (λ (v : ℤ). int v) symbols (i - own) ∙ ap (option_map (λ (v : ℤ). int v)) h)
+      slice_get-right values (kid_values (parts sorts prods kids) ++ []) i (i - own) (subst (λ w. i ≡ w + (i - own)) (sym count) (omega arith))
+      ∙ ap (λ xs. slice_get xs (i - own)) (append-nil (kid_values (parts sorts prods kids)) ∙ kid_values_parts sorts prods kids)
+      ∙ slice_get-map (λ (v : ℤ). int v) symbols (i - own) ∙ ap (option_map (λ (v : ℤ). int v)) h)
       (leaf_at_parts sorts prods kids)
       (expression e.expr) n s
 
@@ -84,16 +84,18 @@ module _ (g : Grammar) (summable : IsTrue (is_summable g.sorts g.prods)) where
             (Holds (occurrence_values (trees_of (values_at g.sorts g.prods (node p kids))) (parts g.sorts g.prods kids) end) (leaf_at (parts g.sorts g.prods kids)))
             q.equations
             (λ j d h.
-                let s = equation_sum g.sorts g.prods q right kids f j d h in
-                record {
-                  given = int s.0;
-                  of_target =
-                      slice_get-left (trees_of (values_at g.sorts g.prods (node p kids))) (kid_values (parts g.sorts g.prods kids) ++ []) d.target
-                      (subst (λ w. d.target < w) (sym count) (equation_at g.sorts g.prods q right j d h).0)
-                      ∙ slice_get-map (λ (v : ℤ). int v) (values_at g.sorts g.prods (node p kids)) d.target
-                      ∙ ap (option_map (λ (v : ℤ). int v))
-                        (ap (λ xs. slice_get xs d.target) (values_at-node g.sorts g.prods p kids q e) ∙ target_sum g.sorts g.prods q right kids f j d s.0 h s.1);
-                  of_expression = equation_value g.sorts g.prods q right kids f (trees_of (values_at g.sorts g.prods (node p kids))) count d s.0 s.1 }) }
+            let s = equation_sum g.sorts g.prods q right kids f j d h in
+            record {
+              given = int s.0;
+              of_target =
+                  slice_get-left (trees_of (values_at g.sorts g.prods (node p kids))) (kid_values (parts g.sorts g.prods kids) ++ []) d.target
+                  (subst (λ w. d.target < w) (sym count) (equation_at g.sorts g.prods q right j d h).0)
+                  ∙ slice_get-map (λ (v : ℤ). int v) (values_at g.sorts g.prods (node p kids)) d.target
+                  ∙ ap (option_map (λ (v : ℤ). int v))
+                  (ap (λ xs. slice_get xs d.target) (values_at-node g.sorts g.prods p kids q e) ∙ target_sum g.sorts g.prods q right kids f j d s.0 h s.1);
+              of_expression = equation_value g.sorts g.prods q right kids f (trees_of (values_at g.sorts g.prods (node p kids))) count d s.0 s.1;
+            });
+      }
 
   mutual
     part_right : (t : Tree) (kind : Kind) (rest : Parts) → IsTrue (fits g.prods t kind) → AreRight g rest → AreRight g (part t (decorated g.sorts g.prods t) rest)
@@ -104,7 +106,7 @@ module _ (g : Grammar) (summable : IsTrue (is_summable g.sorts g.prods)) where
         let both = and_parts (is_left g.prods p kind) (each_fits g.prods kids (kids_of g.prods p)) f in
         let q = is_left-kind g.prods p kind both.0 in
         let kids_fit : IsTrue (each_fits g.prods kids q.0.kids) =
-            subst (λ d. IsTrue (each_fits g.prods kids d)) (ap (λ o. option_map_or (λ (q : Production). q.kids) o []) q.1) both.1 in
+        subst (λ d. IsTrue (each_fits g.prods kids d)) (ap (λ o. option_map_or (λ (q : Production). q.kids) o []) q.1) both.1 in
         ((record { production = q.0; is_there = q.1; is_right = node_right p kids q.0 q.1 kids_fit }, parts_right kids q.0.kids kids_fit, tt), h)
 
     parts_right : (ts : Trees) (declared : List Kid) → IsTrue (each_fits g.prods ts declared) → AreRight g (parts g.sorts g.prods ts)
@@ -148,4 +150,5 @@ attributes_are g w p (node q kids) f =
       within = le_of _ _ (ap suc (max_zero (highest (parts g.sorts g.prods kids)) ∙ highest_parts g.sorts g.prods kids));
       values = sym (synthesised_all (attrs_of_sort g.sorts g.start) (trees_of (values_at g.sorts g.prods (node q kids)))
           (attrs_of_sort-plain g.sorts (and_parts _ _ p).0 g.start)
-          (length-map (values_at g.sorts g.prods (node q kids)) (λ (v : ℤ). int v) ∙ length-values_at g.sorts g.prods (node q kids) (k.Sort g.start) f)) }
+          (length-map (values_at g.sorts g.prods (node q kids)) (λ (v : ℤ). int v) ∙ length-values_at g.sorts g.prods (node q kids) (k.Sort g.start) f));
+    }

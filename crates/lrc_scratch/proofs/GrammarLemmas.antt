@@ -1,10 +1,10 @@
 -- What it says of a production that the grammar is well formed and plain.
-use Rattle.std.proofs.Common.{◌≡◌, ℕ, zero, suc, ◌+◌, ◌-◌, ◌<◌, ◌≤◌, ◌==◌, Bool, true, false, not, ◌&&◌, ◌||◌, cond, List, [], ◌∷◌, ◌++◌, map, length, ◌⊎◌, inl, inr, Option, Some, None, IsSome, IsTrue, slice_get, refl, sym, ap, ◌∙◌, subst, arith, append-nil, length-append}
+use Rattle.std.proofs.Common.{◌≡◌, ℕ, ◌+◌, ◌-◌, ◌<◌, ◌≤◌, ◌==◌, Bool, true, false, not, ◌&&◌, ◌||◌, cond, List, [], ◌∷◌, ◌++◌, map, length, ◌⊎◌, inl, inr, Option, Some, None, IsTrue, slice_get, refl, sym, ap, ◌∙◌, subst, arith, append-nil}
 use Rattle.std.proofs.lemmas.List.{length-map}
 use Rattle.std.specs.Prelude.{nat_lt, nat_eq}
 use Rattle.std.specs.Option.{option_map, option_map_or, option_and_then}
-use Rattle.std.specs.List.{list_all, flat_map, count_by, range_with_len}
-use Rattle.std.proofs.lemmas.Bool.{and_parts, and_from, or_cases, false≢true, not-true, eqb-true, ltb-true, cond-false, cond-true, cases_lt}
+use Rattle.std.specs.List.{list_all, flat_map, count_by}
+use Rattle.std.proofs.lemmas.Bool.{and_parts, and_from, or_cases, false≢true, not-true, eqb-true, cond-false, cases_lt}
 use Rattle.std.proofs.lemmas.Option.{none-some, same_Some, slice_get-map, slice_get_within, option_and_then_some}
 use Rattle.std.proofs.lemmas.List.Folds.{list_all-append, list_all-map}
 use Rattle.lrc_base.specs.declared.grammar.Kind.{Kind}
@@ -12,7 +12,6 @@ use Rattle.lrc_base.specs.declared.grammar.Kind.TheVariants as k
 use Rattle.lrc_base.specs.declared.grammar.Attr.{Attr}
 use Rattle.lrc_base.specs.declared.grammar.Sort.{Sort}
 use Rattle.lrc_base.specs.declared.grammar.Kid.{Kid}
-use Rattle.lrc_base.specs.declared.grammar.Extra.{Extra}
 use Rattle.lrc_base.specs.declared.grammar.Equation.{Equation}
 use Rattle.lrc_base.specs.declared.grammar.Production.{Production}
 use Rattle.lrc_meaning.specs.Tree.{same_kind, is_left}
@@ -104,18 +103,19 @@ module _ (attrs : List Attr) (symbols all : List Occurrence) (is : all ≡ map o
   pub own_at : (i : ℕ) → i < length attrs → (x : Occurrence) × (slice_get all i ≡ Some x) × IsOwn x
   own_at i l =
       let a = some_of (slice_get attrs i) (slice_get-there attrs i l) in
-      let m : i < length (map own_occurrence attrs) = subst (λ n. i < n) (sym (length-map attrs own_occurrence)) l in
-      (own_occurrence a.0,
-       ap (λ xs. slice_get xs i) is ∙ slice_get-left (map own_occurrence attrs) symbols i m ∙ slice_get-map own_occurrence attrs i ∙ ap (option_map own_occurrence) a.1,
-       own_is a.0 (list_all-slice_get is_plain_attr attrs i a.0 plain a.1))
+      let m : i < length (map own_occurrence attrs) = subst (λ n. i < n) (sym (length-map attrs own_occurrence)) l in (
+        own_occurrence a.0,
+        ap (λ xs. slice_get xs i) is ∙ slice_get-left (map own_occurrence attrs) symbols i m ∙ slice_get-map own_occurrence attrs i ∙ ap (option_map own_occurrence) a.1,
+        own_is a.0 (list_all-slice_get is_plain_attr attrs i a.0 plain a.1),
+      )
 
   symbol_at : (i : ℕ) (x : Occurrence) → length attrs ≤ i → slice_get all i ≡ Some x → (i - length attrs < length symbols) × (x.is_defined ≡ false)
   symbol_at i x l h =
       let n = length-map attrs own_occurrence in
       let m : i ≡ length attrs + (i - length attrs) = omega arith in
       let e : slice_get symbols (i - length attrs) ≡ Some x =
-          sym (slice_get-right (map own_occurrence attrs) symbols i (i - length attrs) (subst (λ w. i ≡ w + (i - length attrs)) (sym n) m))
-          ∙ ap (λ xs. slice_get xs i) (sym is) ∙ h in
+      sym (slice_get-right (map own_occurrence attrs) symbols i (i - length attrs) (subst (λ w. i ≡ w + (i - length attrs)) (sym n) m))
+      ∙ ap (λ xs. slice_get xs i) (sym is) ∙ h in
       (slice_get_within symbols (i - length attrs) x e, not-true x.is_defined (list_all-slice_get is_undefined symbols (i - length attrs) x undefined e))
 
   reads_over : (i : ℕ) (kind : Kind) → read_kind all i ≡ Some kind → (i < length attrs) ⊎ (length attrs ≤ i) → (length attrs ≤ i) × (i - length attrs < length symbols)
@@ -167,8 +167,13 @@ is_plain_right sorts prods h i q e =
     let two = and_parts _ _ three.0 in
     let one = and_parts _ _ two.0 in
     record {
-      left_there = one.0; equations_right = four.1; defined_once = five.1; attrs_plain = plain.0;
-      no_extras = has_none-nil q.extras (and_parts _ _ sums).0; are_sums = (and_parts _ _ sums).1 }
+      left_there = one.0;
+      equations_right = four.1;
+      defined_once = five.1;
+      attrs_plain = plain.0;
+      no_extras = has_none-nil q.extras (and_parts _ _ sums).0;
+      are_sums = (and_parts _ _ sums).1;
+    }
 
 equation_over : (o : Option Occurrence) (r : Option Kind) → IsTrue (option_map_or (λ (t : Occurrence). t.is_defined && option_map_or (same_kind t.kind) r false) o false)
     → (x : Occurrence) × (o ≡ Some x) × (x.is_defined ≡ true) × (r ≡ Some x.kind)
@@ -198,19 +203,19 @@ module _ (sorts : List Sort) (prods : List Production) (q : Production) (right :
       → (e.target < length (attrs_of_sort sorts q.left)) × (expression_kind prods (occurrences_of sorts q) q.kids (expression e.expr) ≡ Some k.Int)
   equation_at j e h =
       let r = equation_over (slice_get (occurrences_of sorts q) e.target) (expression_kind prods (occurrences_of sorts q) q.kids (expression e.expr))
-          (list_all-slice_get (is_equation_right sorts prods q) q.equations j e right.equations_right h) in
+      (list_all-slice_get (is_equation_right sorts prods q) q.equations j e right.equations_right h) in
       let d = defines (attrs_of_sort sorts q.left) (symbols_of sorts q.kids) (occurrences_of sorts q) occurrences_are
-          (attrs_of_sort-plain sorts right.attrs_plain q.left) (symbols_undefined sorts right.attrs_plain q.kids) e.target r.0 r.1 r.2 in
+      (attrs_of_sort-plain sorts right.attrs_plain q.left) (symbols_undefined sorts right.attrs_plain q.kids) e.target r.0 r.1 r.2 in
       (d.0, r.3 ∙ ap Some d.1)
 
   -- an attribute of the left side has one equation
   pub one_equation : (n : ℕ) → n < length (attrs_of_sort sorts q.left) → count_by (λ (e : Equation). e.target == n) q.equations ≡ 1
   one_equation n l =
       let x = own_at (attrs_of_sort sorts q.left) (symbols_of sorts q.kids) (occurrences_of sorts q) occurrences_are
-          (attrs_of_sort-plain sorts right.attrs_plain q.left) (symbols_undefined sorts right.attrs_plain q.kids) n l in
+      (attrs_of_sort-plain sorts right.attrs_plain q.left) (symbols_undefined sorts right.attrs_plain q.kids) n l in
       once_over (slice_get (occurrences_of sorts q) n) (count_by (λ (e : Equation). e.target == n) q.equations) x.0 x.1 x.2.is_defined
       (list_all-range (λ i. option_map_or (λ (x : Occurrence). not x.is_defined || nat_eq (count_by (λ (e : Equation). e.target == i) q.equations) 1) (slice_get (occurrences_of sorts q) i) true)
-       0 (length (occurrences_of sorts q)) n n right.defined_once (slice_get_within (occurrences_of sorts q) n x.0 x.1) (omega arith))
+      0 (length (occurrences_of sorts q)) n n right.defined_once (slice_get_within (occurrences_of sorts q) n x.0 x.1) (omega arith))
 
   -- what an equation reads is a symbol's
   pub occurrence_there : (i : ℕ) (kind : Kind) → read_kind (occurrences_of sorts q) i ≡ Some kind

@@ -1,6 +1,6 @@
 -- What a sum reads is there, and what the code answers is the sum.
 use Rattle.std.proofs.Common.{◌≡◌, ℕ, zero, suc, ◌+◌, ◌-◌, ◌<◌, ◌≤◌, Bool, true, false, cond, ℤ, pos, ◌+ℤ◌, ◌==◌, add-one, List, [], ◌∷◌, ◌++◌, map, length, get_or, ◌⊎◌, inl, inr, Option, Some, None, IsSome, slice_get, refl, sym, ap, ◌∙◌, subst, arith}
-use Rattle.std.specs.Prelude.{nat_lt, option_map, option_and_then, unwrap_or}
+use Rattle.std.specs.Prelude.{nat_lt, option_and_then, unwrap_or}
 use Rattle.std.specs.Int.{int_wrap, w64}
 use Rattle.std.proofs.lemmas.Bool.{false≢true, ltb-false, le-ltb, cond-false}
 use Rattle.std.proofs.lemmas.Option.{slice_get_within}
@@ -12,13 +12,13 @@ use Rattle.lrc_base.specs.declared.expr.Expr.{Expr}
 use Rattle.lrc_base.specs.declared.expr.Expr.TheVariants as v
 use Rattle.lrc_base.specs.declared.term.Term.{Term}
 use Rattle.lrc_base.specs.declared.term.Term.TheVariants as term
-use Rattle.lrc_meaning.specs.Tree.{Tree, int, bool, name, node, Trees, none, more, row, tree}
+use Rattle.lrc_meaning.specs.Tree.{Tree, bool, name, node, Trees, row, tree}
 use Rattle.lrc_meaning.specs.Expression.{Expression, literal, occurrence, leaf, binary, choice, make, expression, expression_row, int_in}
 use Rattle.lrc_meaning.specs.Plain.{is_add}
 use Rattle.lrc_meaning.proofs.TreeLemmas.{tree-Int, tree-Bool, tree-Name, tree-Node}
 use Rattle.lrc_meaning.proofs.ExpressionLemmas.{expression-Int, expression-Bool, expression-Name, expression-Occ, expression-Leaf, expression-Op, expression-If, expression-Make}
 use Rattle.lrc_scratch.specs.Sums.{int_at, added, sum_of, attribute_sum, first_sums}
-use Rattle.lrc_scratch.proofs.ListLemmas.{some_of, is_some_of}
+use Rattle.lrc_scratch.proofs.ListLemmas.{some_of}
 
 -- a child that is read is there
 pub int_at-within : (ts : List Term) (i : ℕ) → IsSome (int_at (row (map tree ts)) i) → i < length ts

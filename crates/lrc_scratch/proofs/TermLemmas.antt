@@ -1,19 +1,19 @@
 -- The values of a term's attributes, a node or a child at a time.
-use Rattle.std.proofs.Common.{◌≡◌, ℕ, zero, suc, ◌+◌, ◌<◌, ◌≤◌, Bool, true, false, ◌&&◌, ℤ, List, [], ◌∷◌, ◌++◌, map, length, take, get_or, ◌⊎◌, inl, inr, Option, Some, None, IsSome, IsTrue, slice_get, refl, sym, ap, ◌∙◌, subst, arith, append-nil, append_assoc}
+use Rattle.std.proofs.Common.{◌≡◌, ℕ, zero, suc, ◌+◌, ◌<◌, Bool, ℤ, List, [], ◌∷◌, ◌++◌, map, length, take, get_or, ◌⊎◌, inl, inr, Some, IsSome, IsTrue, slice_get, sym, ap, ◌∙◌, subst, arith, append-nil, append_assoc}
 use Rattle.std.specs.Option.{option_map_or}
 use Rattle.std.proofs.lemmas.Bool.{and_parts, false≢true, ltb-true}
-use Rattle.std.proofs.lemmas.List.{take_more, map-append}
+use Rattle.std.proofs.lemmas.List.{take_more}
 use Rattle.lrc_base.specs.declared.grammar.Kind.{Kind}
 use Rattle.lrc_base.specs.declared.grammar.Sort.{Sort}
 use Rattle.lrc_base.specs.declared.grammar.Kid.{Kid}
 use Rattle.lrc_base.specs.declared.grammar.Production.{Production}
 use Rattle.lrc_base.specs.declared.term.Term.{Term}
 use Rattle.lrc_base.specs.declared.term.Term.TheVariants as v
-use Rattle.lrc_meaning.specs.Tree.{Tree, int, bool, name, node, Trees, none, more, row, tree, is_left, kids_of, fits, each_fits}
+use Rattle.lrc_meaning.specs.Tree.{row, tree, is_left, kids_of, fits, each_fits}
 use Rattle.lrc_meaning.specs.Grammar.{attrs_of_sort}
 use Rattle.lrc_meaning.proofs.TreeLemmas.{tree-Int, tree-Bool, tree-Name, tree-Node}
 use Rattle.lrc_scratch.specs.Sums.{attribute_sum, first_sums, values_at, values_below, is_summable}
-use Rattle.lrc_scratch.proofs.GrammarLemmas.{is_left-kind, is_plain_right}
+use Rattle.lrc_scratch.proofs.GrammarLemmas.{is_plain_right}
 use Rattle.lrc_scratch.proofs.ValueLemmas.{values_at-node, attribute_sum_there}
 
 -- the children of a node that fits fit its production's
@@ -57,7 +57,7 @@ module _ (sorts : List Sort) (prods : List Production) (summable : IsTrue (is_su
       let declared : kids_of prods p ≡ q.kids = ap (λ o. option_map_or (λ (q : Production). q.kids) o []) is in
       subst (λ o. (n : ℕ) → n < o → IsSome (attribute_sum q o symbols (row (map tree ks)) n)) (sym count)
       (subst (λ s. (n : ℕ) → n < length (attrs_of_sort sorts q.left) → IsSome (attribute_sum q (length (attrs_of_sort sorts q.left)) s (row (map tree ks)) n)) (sym values)
-       (attribute_sum_there sorts prods q (is_plain_right sorts prods summable p q is) (row (map tree ks)) (subst (λ d. IsTrue (each_fits prods (row (map tree ks)) d)) declared fit)))
+      (attribute_sum_there sorts prods q (is_plain_right sorts prods summable p q is) (row (map tree ks)) (subst (λ d. IsTrue (each_fits prods (row (map tree ks)) d)) declared fit)))
 
   -- and they are the values of its attributes
   pub node_sums_are : (t : Term) → t ≡ v.Node p ks → first_sums q own symbols (row (map tree ks)) own ≡ values_at sorts prods (tree t)

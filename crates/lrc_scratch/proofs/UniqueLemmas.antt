@@ -1,21 +1,19 @@
 -- Over a well-formed plain grammar a tree has one attribution at most, and it is as high as the tree.
-use Rattle.std.proofs.Common.{◌≡◌, ℕ, zero, suc, ◌+◌, ◌-◌, ◌<◌, ◌≤◌, ◌==◌, Bool, true, false, not, ◌&&◌, ℤ, List, [], ◌∷◌, ◌++◌, map, length, Option, Some, None, IsTrue, slice_get, refl, sym, ap, ◌∙◌, subst, arith}
+use Rattle.std.proofs.Common.{◌≡◌, ℕ, suc, ◌<◌, ◌==◌, true, false, not, ◌&&◌, ℤ, List, [], ◌∷◌, ◌++◌, length, Some, IsTrue, slice_get, refl, sym, ap, ◌∙◌, subst, arith}
 use Rattle.std.specs.Option.{option_map, option_map_or}
 use Rattle.std.specs.List.{find}
 use Rattle.std.proofs.lemmas.Bool.{and_parts, and_from, false≢true, eqb-true, not-true}
-use Rattle.std.proofs.lemmas.Option.{none-some, same_Some, slice_get-map, slice_get_within}
+use Rattle.std.proofs.lemmas.Option.{same_Some, slice_get-map, slice_get_within}
 use Rattle.lrc_base.specs.declared.grammar.Kind.{Kind}
 use Rattle.lrc_base.specs.declared.grammar.Kind.TheVariants as k
 use Rattle.lrc_base.specs.declared.grammar.Kid.{Kid}
-use Rattle.lrc_base.specs.declared.grammar.Extra.{Extra}
 use Rattle.lrc_base.specs.declared.grammar.Equation.{Equation}
 use Rattle.lrc_base.specs.declared.grammar.Production.{Production}
-use Rattle.lrc_meaning.specs.Tree.{Tree, int, bool, name, node, Trees, none, more, is_sort, is_left, kids_of, fits, each_fits, tree_height}
-use Rattle.lrc_meaning.specs.Expression.{expression, value_of}
+use Rattle.lrc_meaning.specs.Tree.{Tree, int, bool, name, node, Trees, is_sort, is_left, kids_of, fits, each_fits, tree_height}
 use Rattle.lrc_meaning.specs.Grammar.{Grammar, attrs_of_sort}
-use Rattle.lrc_meaning.specs.Attribution.{Decorated, at_node, Parts, end, value, symbol, bare, bare_kids, production_of, kid_values, occurrence_values, leaf_at, kids_agree, extras_agree, Holds, IsNodeRight, IsNode, IsRight, AreRight, height, highest}
+use Rattle.lrc_meaning.specs.Attribution.{Decorated, at_node, Parts, end, value, symbol, bare, bare_kids, production_of, kid_values, occurrence_values, leaf_at, kids_agree, extras_agree, Holds, IsNodeRight, IsRight, AreRight, height, highest}
 use Rattle.lrc_scratch.specs.Sums.{values_at, is_summable}
-use Rattle.lrc_scratch.proofs.ListLemmas.{some_of, slice_get-there, slice_get-left, find-there, find-passes, at_place_of_all}
+use Rattle.lrc_scratch.proofs.ListLemmas.{some_of, slice_get-left, find-there, find-passes, at_place_of_all}
 use Rattle.lrc_scratch.proofs.GrammarLemmas.{is_left-kind, is_plain_right, one_equation}
 use Rattle.lrc_scratch.proofs.ValueLemmas.{values_at-node}
 use Rattle.lrc_scratch.proofs.DecorationLemmas.{trees_of, part, decorated, parts, highest_parts, max_zero}
@@ -58,7 +56,7 @@ module _ (g : Grammar) (summable : IsTrue (is_summable g.sorts g.prods)) where
     bare_fits (at_node p own kids extras) kind r l =
         and_from (is_left g.prods p kind) (each_fits g.prods (bare_kids kids) (kids_of g.prods p)) l
         (subst (λ declared. IsTrue (each_fits g.prods (bare_kids kids) declared)) (sym (declared_kids p r.0.production r.0.is_there))
-         (bare_kids_fit kids r.0.production.kids r.1 r.0.is_right.has_kids))
+        (bare_kids_fit kids r.0.production.kids r.1 r.0.is_right.has_kids))
 
     bare_kids_fit : (ps : Parts) (declared : List Kid) → AreRight g ps → IsTrue (kids_agree g.prods declared ps) → IsTrue (each_fits g.prods (bare_kids ps) declared)
     bare_kids_fit end [] r h = refl
@@ -81,22 +79,22 @@ module _ (g : Grammar) (summable : IsTrue (is_summable g.sorts g.prods)) where
       let plain = is_plain_right g.sorts g.prods summable p q is in
       same_by_place own (trees_of (values_at g.sorts g.prods (node p ts))) (right.owns ∙ sym (length-trees_at g summable p ts q is))
       (λ i x h.
-          let within : i < length (attrs_of_sort g.sorts q.left) = subst (λ w. i < w) right.owns (slice_get_within own i x h) in
-          let there = some_of (find (λ (e : Equation). e.target == i) q.equations) (find-there (λ (e : Equation). e.target == i) q.equations (one_equation g.sorts g.prods q plain i within)) in
-          let place = find-passes (λ (e : Equation). e.target == i) q.equations there.0 there.1 in
-          let target : there.0.target ≡ i = eqb-true there.0.target i place.0 in
-          let holds = at_place_of_all (Holds (occurrence_values own (parts g.sorts g.prods ts) end) (leaf_at (parts g.sorts g.prods ts))) q.equations place.1.0 there.0 right.equations place.1.1 in
-          let sum = equation_sum g.sorts g.prods q plain ts fit place.1.0 there.0 place.1.1 in
-          let as_sum : Some holds.given ≡ Some (int sum.0) = sym holds.of_expression ∙ equation_value g.sorts g.prods q plain ts fit own right.owns there.0 sum.0 sum.1 in
-          let as_own : Some holds.given ≡ Some x =
-              sym holds.of_target ∙ ap (slice_get (occurrence_values own (parts g.sorts g.prods ts) end)) target
-              ∙ slice_get-left own (kid_values (parts g.sorts g.prods ts) ++ []) i (slice_get_within own i x h) ∙ h in
-          slice_get-map (λ (v : ℤ). int v) (values_at g.sorts g.prods (node p ts)) i
-          ∙ ap (option_map (λ (v : ℤ). int v))
-            (ap (λ xs. slice_get xs i) (values_at-node g.sorts g.prods p ts q is)
-             ∙ ap (slice_get _) (sym target)
-             ∙ target_sum g.sorts g.prods q plain ts fit place.1.0 there.0 sum.0 place.1.1 sum.1)
-          ∙ sym as_sum ∙ as_own)
+      let within : i < length (attrs_of_sort g.sorts q.left) = subst (λ w. i < w) right.owns (slice_get_within own i x h) in
+      let there = some_of (find (λ (e : Equation). e.target == i) q.equations) (find-there (λ (e : Equation). e.target == i) q.equations (one_equation g.sorts g.prods q plain i within)) in
+      let place = find-passes (λ (e : Equation). e.target == i) q.equations there.0 there.1 in
+      let target : there.0.target ≡ i = eqb-true there.0.target i place.0 in
+      let holds = at_place_of_all (Holds (occurrence_values own (parts g.sorts g.prods ts) end) (leaf_at (parts g.sorts g.prods ts))) q.equations place.1.0 there.0 right.equations place.1.1 in
+      let sum = equation_sum g.sorts g.prods q plain ts fit place.1.0 there.0 place.1.1 in
+      let as_sum : Some holds.given ≡ Some (int sum.0) = sym holds.of_expression ∙ equation_value g.sorts g.prods q plain ts fit own right.owns there.0 sum.0 sum.1 in
+      let as_own : Some holds.given ≡ Some x =
+      sym holds.of_target ∙ ap (slice_get (occurrence_values own (parts g.sorts g.prods ts) end)) target
+      ∙ slice_get-left own (kid_values (parts g.sorts g.prods ts) ++ []) i (slice_get_within own i x h) ∙ h in
+      slice_get-map (λ (v : ℤ). int v) (values_at g.sorts g.prods (node p ts)) i
+      ∙ ap (option_map (λ (v : ℤ). int v))
+      (ap (λ xs. slice_get xs i) (values_at-node g.sorts g.prods p ts q is)
+      ∙ ap (slice_get _) (sym target)
+      ∙ target_sum g.sorts g.prods q plain ts fit place.1.0 there.0 sum.0 place.1.1 sum.1)
+      ∙ sym as_sum ∙ as_own)
 
   mutual
     -- a right node is its tree, decorated with its values
@@ -106,7 +104,7 @@ module _ (g : Grammar) (summable : IsTrue (is_summable g.sorts g.prods)) where
         let right = r.0.is_right in
         let kids_are = are_parts kids q.kids r.1 right.has_kids in
         let none : extras ≡ end =
-            none_left g.prods extras (subst (λ xs. IsTrue (extras_agree g.prods xs extras)) (is_plain_right g.sorts g.prods summable p q r.0.is_there).no_extras right.has_extras) in
+        none_left g.prods extras (subst (λ xs. IsTrue (extras_agree g.prods xs extras)) (is_plain_right g.sorts g.prods summable p q r.0.is_there).no_extras right.has_extras) in
         let fit = bare_kids_fit kids q.kids r.1 right.has_kids in
         let over_parts : IsNodeRight g q own (parts g.sorts g.prods (bare_kids kids)) extras = subst (λ ks. IsNodeRight g q own ks extras) (sym kids_are) right in
         let over_end : IsNodeRight g q own (parts g.sorts g.prods (bare_kids kids)) end = subst (λ xs. IsNodeRight g q own (parts g.sorts g.prods (bare_kids kids)) xs) none over_parts in

@@ -1,10 +1,9 @@
 -- Each sum of a tree that fits is there: what an expression of a well-formed plain grammar reads has a value.
-use Rattle.std.proofs.Common.{◌≡◌, ℕ, zero, suc, ◌+◌, ◌-◌, ◌<◌, ◌≤◌, ◌==◌, Bool, true, false, not, ◌&&◌, cond, ℤ, pos, ◌+ℤ◌, List, [], ◌∷◌, ◌++◌, map, length, Option, Some, None, IsSome, IsTrue, slice_get, refl, sym, ap, ◌∙◌, subst, arith, length-append, add-one}
+use Rattle.std.proofs.Common.{◌≡◌, ℕ, zero, suc, ◌+◌, ◌-◌, ◌<◌, ◌≤◌, ◌==◌, Bool, true, false, cond, ℤ, pos, List, [], ◌∷◌, map, length, Option, Some, None, IsSome, IsTrue, slice_get, refl, sym, ap, ◌∙◌, subst, arith, length-append}
 use Rattle.std.specs.Prelude.{nat_lt, nat_eq}
-use Rattle.std.specs.Int.{int_wrap, w64}
-use Rattle.std.specs.Option.{option_map, option_map_or, option_and_then, unwrap_or}
-use Rattle.std.specs.List.{list_all, flat_map, find, count_by}
-use Rattle.std.proofs.lemmas.Bool.{and_parts, false≢true, cond-false, cond-true, le-ltb, cases_eq}
+use Rattle.std.specs.Option.{option_map_or, option_and_then, unwrap_or}
+use Rattle.std.specs.List.{find}
+use Rattle.std.proofs.lemmas.Bool.{and_parts, false≢true, cond-false, le-ltb}
 use Rattle.std.proofs.lemmas.Option.{none-some, same_Some}
 use Rattle.std.proofs.lemmas.List.{length-map}
 use Rattle.lrc_base.specs.declared.grammar.Kind.{Kind}
@@ -13,14 +12,13 @@ use Rattle.lrc_base.specs.declared.grammar.Sort.{Sort}
 use Rattle.lrc_base.specs.declared.grammar.Kid.{Kid}
 use Rattle.lrc_base.specs.declared.grammar.Equation.{Equation}
 use Rattle.lrc_base.specs.declared.grammar.Production.{Production}
-use Rattle.lrc_base.specs.declared.expr.Op.{Op}
 use Rattle.lrc_base.specs.declared.expr.Op.TheVariants as o
-use Rattle.lrc_meaning.specs.Tree.{Tree, int, bool, name, node, Trees, none, more, same_kind, is_sort, is_left, kids_of, fits, each_fits}
+use Rattle.lrc_meaning.specs.Tree.{Tree, int, bool, name, node, Trees, none, more, is_sort, is_left, kids_of, fits, each_fits}
 use Rattle.lrc_meaning.specs.Expression.{Expression, literal, occurrence, leaf, binary, choice, make, expression, int_in}
-use Rattle.lrc_meaning.specs.Grammar.{attrs_of_sort, attrs_of, Occurrence, symbol_occurrence, occurrences_of, read_kind, leaf_kind, of_kind, common_kind, operated_kind, expression_kind}
-use Rattle.lrc_meaning.specs.Plain.{is_int, is_add, is_sum}
+use Rattle.lrc_meaning.specs.Grammar.{attrs_of_sort, attrs_of, Occurrence, symbol_occurrence, occurrences_of, read_kind, leaf_kind, of_kind, common_kind, expression_kind}
+use Rattle.lrc_meaning.specs.Plain.{is_int, is_sum}
 use Rattle.lrc_scratch.specs.Sums.{int_at, added, sum_of, attribute_sum, first_sums, production_sums, values_at, values_below}
-use Rattle.lrc_scratch.proofs.ListLemmas.{some_of, is_some_of, slice_get-there, list_all-slice_get, find-there, find-passes}
+use Rattle.lrc_scratch.proofs.ListLemmas.{some_of, slice_get-there, list_all-slice_get, find-there, find-passes}
 use Rattle.lrc_scratch.proofs.GrammarLemmas.{same_kind-same, is_left-kind, symbols_of, IsPlainRight, equation_at, one_equation, occurrence_there}
 
 no_sorts : (b : Bool) (r : ℕ) (g : Kind) → of_kind k.Int k.Int (cond b (Some (k.Sort r)) None) ≡ Some g → ⊥
@@ -162,7 +160,7 @@ module _ (sorts : List Sort) (prods : List Production) (q : Production) (right :
   equation_sum_there j e h =
       sum_there prods (occurrences_of sorts q) q.kids (length (attrs_of_sort sorts q.left)) (values_below sorts prods kids) kids
       (λ i kind r. let there = occurrence_there sorts prods q right i kind r in
-          (there.0, subst (λ n. i - length (attrs_of_sort sorts q.left) < n) (sym (length-values_below sorts prods kids q.kids kids_fit)) there.1))
+      (there.0, subst (λ n. i - length (attrs_of_sort sorts q.left) < n) (sym (length-values_below sorts prods kids q.kids kids_fit)) there.1))
       (λ i l. int_leaf_there prods kids q.kids i kids_fit l)
       (expression e.expr)
       (list_all-slice_get (λ (e : Equation). is_sum (expression e.expr)) q.equations j e right.are_sums h)

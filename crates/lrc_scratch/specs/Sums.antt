@@ -1,5 +1,5 @@
 -- The values of the attributes of a plain tree as numbers, from the leaves to the root.
-use Rattle.std.specs.Prelude.{ℕ, zero, suc, ◌+◌, ◌-◌, ◌==◌, nat_lt, Bool, true, false, not, ◌&&◌, ℤ, pos, ◌+ℤ◌, List, [], ◌∷◌, ◌++◌, length, Option, Some, None, option_map, option_and_then, slice_get, unwrap_or, cond}
+use Rattle.std.specs.Prelude.{ℕ, zero, suc, ◌-◌, ◌==◌, nat_lt, Bool, ◌&&◌, ℤ, pos, ◌+ℤ◌, List, [], ◌∷◌, ◌++◌, length, Option, None, option_map, option_and_then, slice_get, unwrap_or, cond}
 use Rattle.std.specs.Int.{int_wrap, w64}
 use Rattle.std.specs.List.{find, list_all}
 use Rattle.std.specs.Option.{option_map_or}
@@ -8,7 +8,7 @@ use Rattle.lrc_base.specs.declared.grammar.Equation.{Equation}
 use Rattle.lrc_base.specs.declared.grammar.Production.{Production}
 use Rattle.lrc_meaning.specs.Tree.{Tree, int, bool, name, node, Trees, none, more}
 use Rattle.lrc_meaning.specs.Expression.{Expression, literal, occurrence, leaf, binary, choice, make, expression, int_in}
-use Rattle.lrc_meaning.specs.Grammar.{Grammar, attrs_of_sort, is_production_right}
+use Rattle.lrc_meaning.specs.Grammar.{attrs_of_sort, is_production_right}
 use Rattle.lrc_meaning.specs.Plain.{is_add, is_plain_attr, is_plain_production}
 
 -- the number that is the child of this number

@@ -5,5 +5,4 @@ pub fn plain_attributions()
     ensures unique { AttributionsAreUnique }
     ensures height { AttributionsAreAsHigh }
     ensures higher { HigherHasNone }
-{
-}
+{}

@@ -41,7 +41,12 @@ fn own_values(
 
 /// The values of the attributes of a tree; a leaf has none.
 #[cycle(evaluate)]
-fn tree_values(alloc: Global, sorts: &[Sort], prods: &[Production], term: &Term) -> Result<List<i64>, Memory>
+fn tree_values(
+    alloc: Global,
+    sorts: &[Sort],
+    prods: &[Production],
+    term: &Term,
+) -> Result<List<i64>, Memory>
     requires summable { IsTrue (is_summable sorts.now prods.now) }
     requires fitting { (kind : Kind) × IsTrue (fits prods.now (tree term.now) kind) }
     ensures { IfOk result (λ values. values ≡ values_at sorts.now prods.now (tree term.now)) }
@@ -59,7 +64,12 @@ fn tree_values(alloc: Global, sorts: &[Sort], prods: &[Production], term: &Term)
 
 /// The values of the attributes of children, one behind the other.
 #[cycle(evaluate)]
-fn kid_values(alloc: Global, sorts: &[Sort], prods: &[Production], kids: &[Term]) -> Result<List<i64>, Memory>
+fn kid_values(
+    alloc: Global,
+    sorts: &[Sort],
+    prods: &[Production],
+    kids: &[Term],
+) -> Result<List<i64>, Memory>
     requires summable { IsTrue (is_summable sorts.now prods.now) }
     requires fitting { (declared : p.List Kid) × IsTrue (each_fits prods.now (row (map tree kids.now)) declared) }
     ensures { IfOk result (λ values. values ≡ values_below sorts.now prods.now (row (map tree kids.now))) }
@@ -84,10 +94,8 @@ pub fn attributes(
     requires well_formed { IsTrue (is_well_formed (record { sorts = sorts.now; prods = prods.now; start = start })) }
     requires plain { IsTrue (is_plain (record { sorts = sorts.now; prods = prods.now; start = start })) }
     requires fitting { IsTrue (fits prods.now (tree term.now) (k.Sort start)) }
-    ensures {
-        IfOk result (λ values.
-            Attributes (record { sorts = sorts.now; prods = prods.now; start = start }) (tree_height (tree term.now)) (tree term.now) (map int values))
-    }
+    ensures { IfOk result (λ values.
+        Attributes (record { sorts = sorts.now; prods = prods.now; start = start }) (tree_height (tree term.now)) (tree term.now) (map int values)) }
 {
     tree_values(alloc, sorts, prods, term)
 }

@@ -3,7 +3,6 @@ use Rattle.lrc_meaning.specs.Tree.{tree_height}
 use Rattle.lrc_meaning.specs.Attribution.{height}
 use Rattle.lrc_scratch.proofs.AttributionLemmas.{is_summable_of}
 use Rattle.lrc_scratch.proofs.UniqueLemmas.{is_decorated, is_as_high}
-use Rattle.lrc_scratch.specs.Sums.{values_at}
 use Rattle.lrc_scratch.proofs.DecorationLemmas.{decorated}
 use Rattle.lrc_scratch.proofs.laws.plain_attributions.Goals as goal
 

@@ -12,10 +12,16 @@ use Rattle.lrc_scratch.proofs.scratch.+evaluate.Goals.{tree_values-After-index-p
 
 pub tree_values-kid_values-requires : goal.tree_values-kid_values-requires
 tree_values-kid_values-requires t c =
-    let f = node_fits c.args.prods.now c.args.term.now c.in-Node.number c.in-Node.kids c.requires.fitting.0 c.in-Node.is c.requires.fitting.1 in
-    (search (rules, the_lemmas),
-     (c.requires.summable, (kids_of c.args.prods.now c.in-Node.number,
-      subst (λ ks. IsTrue (each_fits c.args.prods.now (row (map tree ks)) (kids_of c.args.prods.now c.in-Node.number))) (sym c.as_slice.ensures) f.1)))
+    let f = node_fits c.args.prods.now c.args.term.now c.in-Node.number c.in-Node.kids c.requires.fitting.0 c.in-Node.is c.requires.fitting.1 in (
+      search (rules, the_lemmas),
+      (
+        c.requires.summable,
+        (
+          kids_of c.args.prods.now c.in-Node.number,
+          subst (λ ks. IsTrue (each_fits c.args.prods.now (row (map tree ks)) (kids_of c.args.prods.now c.in-Node.number))) (sym c.as_slice.ensures) f.1,
+        ),
+      ),
+    )
 
 pub tree_values-bounds-prods-number : goal.tree_values-bounds-prods-number
 tree_values-bounds-prods-number t c =
@@ -57,9 +63,9 @@ tree_values-returns-in_ok-symbols-in-Node t c =
     let d = (goal.at.tree_values-returns-in_ok-symbols-in-Node t c).After-as_slice-in-Node-2 in
     IfOk-weaker c.own_values.result _ _
     (λ values e. e ∙ node_sums_are c.args.sorts.now c.args.prods.now c.requires.summable c.in-Node.number c.index-prods-number.result
-        (production_is t (goal.at.tree_values-returns-in_ok-symbols-in-Node t c).After-index-prods-number)
-        c.as_slice-in-Node-2.result.now (kids_fit t d) c.attribute_count-own.result c.attribute_count-own.ensures c.as_slice-in-Node.result.now (symbols_are t d)
-        c.args.term.now (node_is t d))
+    (production_is t (goal.at.tree_values-returns-in_ok-symbols-in-Node t c).After-index-prods-number)
+    c.as_slice-in-Node-2.result.now (kids_fit t d) c.attribute_count-own.result c.attribute_count-own.ensures c.as_slice-in-Node.result.now (symbols_are t d)
+    c.args.term.now (node_is t d))
     c.own_values.ensures
 
 pub kid_values-tree_values-requires : goal.kid_values-tree_values-requires

@@ -1,4 +1,4 @@
-use Rattle.std.proofs.Common.{◌≡◌, ℕ, ◌-◌, ◌≤◌, ◌<◌, length, map, Some, sym, ap, ◌∙◌, rules, arith, get_or, pos, subst, IsSome}
+use Rattle.std.proofs.Common.{◌-◌, map, Some, sym, ap, ◌∙◌, rules, get_or, pos, subst, IsSome}
 use Rattle.std.proofs.Common.{w64, SFits}
 use Rattle.std.proofs.lemmas.Int.{to_z-of_z, wrapping_add_is}
 use Rattle.std.proofs.lemmas.Option.{slice_get-get_or}
