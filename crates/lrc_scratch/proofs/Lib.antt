@@ -6,3 +6,4 @@ pub mod TermLemmas
 pub mod DecorationLemmas
 pub mod AttributionLemmas
 pub mod UniqueLemmas
+pub mod ExampleLemmas

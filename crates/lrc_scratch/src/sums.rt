@@ -29,8 +29,8 @@ fn sum(expr: &Expr, own: usize, symbols: &[i64], kids: &[Term]) -> i64
         Expr::Occ(at) => symbols[*at as usize - own],
         Expr::Leaf(at) => int_leaf(kids, *at as usize),
         Expr::Op(_, left, right) => {
-            let left = sum(left.get(), own, symbols, kids);
-            left.wrapping_add(sum(right.get(), own, symbols, kids))
+            let first = sum(left.get(), own, symbols, kids);
+            first.wrapping_add(sum(right.get(), own, symbols, kids))
         }
         Expr::Bool(_) | Expr::Name(_) | Expr::If(..) | Expr::Make(..) => unreachable!(),
     }

@@ -18,8 +18,8 @@ bounds-symbols-at t c = (reads-Occ c.args.own c.args.symbols.now (row (map tree 
 pub int_leaf-requires : goal.int_leaf-requires
 int_leaf-requires t c = reads-Leaf c.args.own c.args.symbols.now (row (map tree c.args.kids.now)) c.args.expr.now c.in-Leaf.at c.in-Leaf.is c.requires
 
-pub sum-left-requires : goal.sum-left-requires
-sum-left-requires t c =
+pub sum-first-requires : goal.sum-first-requires
+sum-first-requires t c =
     let parts = reads-Op c.args.own c.args.symbols.now (row (map tree c.args.kids.now)) c.args.expr.now c.in-Op.field-0 c.in-Op.left c.in-Op.right c.in-Op.is c.requires in
     (search (rules, the_lemmas), subst (λ e. IsSome (sum_of c.args.own c.args.symbols.now (row (map tree c.args.kids.now)) (expression e))) (sym c.get.ensures) parts.1.0)
 
@@ -57,9 +57,9 @@ returns-in-Occ t c =
 pub returns-in-Op : goal.returns-in-Op
 returns-in-Op t c =
     let parts = reads-Op c.args.own c.args.symbols.now (row (map tree c.args.kids.now)) c.args.expr.now c.in-Op.field-0 c.in-Op.left c.in-Op.right c.in-Op.is c.requires in
-    let left_fits : SFits w64 c.sum-left.result = search rules in
+    let left_fits : SFits w64 c.sum-first.result = search rules in
     let right_fits : SFits w64 c.sum.result = search rules in
-    is-Op c.args.own c.args.symbols.now (row (map tree c.args.kids.now)) c.args.expr.now c.in-Op.field-0 c.in-Op.left c.in-Op.right c.sum-left.result c.sum.result c.in-Op.is parts.0
-    (ap (λ e. sum_of c.args.own c.args.symbols.now (row (map tree c.args.kids.now)) (expression e)) (sym c.get.ensures) ∙ c.sum-left.ensures)
+    is-Op c.args.own c.args.symbols.now (row (map tree c.args.kids.now)) c.args.expr.now c.in-Op.field-0 c.in-Op.left c.in-Op.right c.sum-first.result c.sum.result c.in-Op.is parts.0
+    (ap (λ e. sum_of c.args.own c.args.symbols.now (row (map tree c.args.kids.now)) (expression e)) (sym c.get.ensures) ∙ c.sum-first.ensures)
     (ap (λ e. sum_of c.args.own c.args.symbols.now (row (map tree c.args.kids.now)) (expression e)) (sym c.get-in-Op.ensures) ∙ c.sum.ensures)
-    ∙ ap Some (sym (wrapping_add_is w64 c.sum-left.result c.sum.result left_fits right_fits))
+    ∙ ap Some (sym (wrapping_add_is w64 c.sum-first.result c.sum.result left_fits right_fits))
