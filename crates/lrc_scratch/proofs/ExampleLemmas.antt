@@ -1,12 +1,12 @@
 -- The grammar of the tests is well formed and plain.
-use Rattle.std.proofs.Common.{◌≡◌, IsTrue, true, List, [], ◌∷◌, pos, sym, subst}
+use Rattle.std.proofs.Common.{◌≡◌, IsTrue, List, [], ◌∷◌, pos, sym, subst}
 use Rattle.lrc_base.specs.declared.grammar.Kind.TheVariants as k
 use Rattle.lrc_base.specs.declared.grammar.Sort.{Sort}
 use Rattle.lrc_base.specs.declared.grammar.Production.{Production}
 use Rattle.lrc_base.specs.declared.term.Term.{Term}
 use Rattle.lrc_base.specs.declared.term.Term.TheVariants as v
 use Rattle.lrc_meaning.specs.Tree.{fits, tree}
-use Rattle.lrc_meaning.specs.Grammar.{Grammar, is_well_formed}
+use Rattle.lrc_meaning.specs.Grammar.{is_well_formed}
 use Rattle.lrc_meaning.specs.Plain.{is_plain}
 use Rattle.lrc_meaning.proofs.ExpressionLemmas.{expression_equations}
 use Rattle.lrc_meaning.proofs.TreeLemmas.{tree_equations}

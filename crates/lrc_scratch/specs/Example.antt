@@ -1,5 +1,5 @@
 -- The grammar of the tests: numbers and their sums, `Num(n: Int)` with `v = n` and `Add(l: E, r: E)` with `v = l.v + r.v`.
-use Rattle.std.specs.Prelude.{false, List, [], ◌∷◌, None, codes}
+use Rattle.std.specs.Prelude.{false, [], ◌∷◌, None, codes}
 use Rattle.lrc_base.specs.declared.grammar.Kind.TheVariants as k
 use Rattle.lrc_base.specs.declared.grammar.Sort.{Sort}
 use Rattle.lrc_base.specs.declared.grammar.Production.{Production}

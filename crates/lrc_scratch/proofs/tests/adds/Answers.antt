@@ -1,6 +1,6 @@
-use Rattle.std.proofs.Common.{◌≡◌, List, [], ◌∷◌, pos, ap, ◌∙◌}
+use Rattle.std.proofs.Common.{[], ◌∷◌, pos, ap, ◌∙◌}
 use Rattle.lrc_base.specs.declared.term.Term.TheVariants as v
-use Rattle.lrc_scratch.specs.Example.{number_sort, number, addition}
+use Rattle.lrc_scratch.specs.Example.{number}
 use Rattle.lrc_scratch.proofs.ExampleLemmas.{built_is_well_formed, built_is_plain, built_fits}
 use Rattle.lrc_scratch.proofs.tests.adds.Goals as goal
 
