@@ -4,14 +4,12 @@
 -- Higher-Order Attribute Grammars (1989). It is a local check on a finished tree, and knows no order of evaluation.
 use Rattle.std.specs.Prelude.{◌≡◌, ℕ, zero, suc, ◌≤◌, max, Bool, true, false, not, ◌&&◌, IsTrue, List, [], ◌∷◌, ◌++◌, length, Option, Some, None, slice_get, cond, ⊤}
 use Rattle.std.specs.List.{AllByRecursion}
-use Rattle.lrc_base.specs.declared.grammar.Kind.{Kind}
 use Rattle.lrc_base.specs.declared.grammar.Attr.{Attr}
-use Rattle.lrc_base.specs.declared.grammar.Sort.{Sort}
 use Rattle.lrc_base.specs.declared.grammar.Kid.{Kid}
 use Rattle.lrc_base.specs.declared.grammar.Extra.{Extra}
 use Rattle.lrc_base.specs.declared.grammar.Equation.{Equation}
 use Rattle.lrc_base.specs.declared.grammar.Production.{Production}
-use Rattle.lrc_meaning.specs.Tree.{Tree, node, Trees, none, more, same_kind, is_sort, is_left, fits}
+use Rattle.lrc_meaning.specs.Tree.{Tree, node, Trees, none, more, is_sort, is_left, fits}
 use Rattle.lrc_meaning.specs.Expression.{expression, value_of}
 use Rattle.lrc_meaning.specs.Grammar.{Grammar, attrs_of_sort}
 

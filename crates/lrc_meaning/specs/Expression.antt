@@ -1,5 +1,5 @@
 -- Expressions on the right side of equations, and their values.
-use Rattle.std.specs.Prelude.{◌≡◌, ℕ, Bool, true, false, ℤ, ◌+ℤ◌, ◌-ℤ◌, ◌*ℤ◌, int_lt, List, [], ◌∷◌, Option, Some, None, option_map, option_and_then, slice_get, cond}
+use Rattle.std.specs.Prelude.{ℕ, Bool, ℤ, ◌+ℤ◌, ◌-ℤ◌, ◌*ℤ◌, int_lt, List, [], ◌∷◌, Option, Some, None, option_map, option_and_then, slice_get, cond}
 use Rattle.std.specs.Int.{int_wrap, w64}
 use Rattle.lrc_base.specs.declared.expr.Op.{Op}
 use Rattle.lrc_base.specs.declared.expr.Op.TheVariants as o

@@ -1,5 +1,5 @@
 -- Grammars: the occurrences of a production, and when a grammar is well formed.
-use Rattle.std.specs.Prelude.{◌≡◌, ℕ, ◌+◌, Bool, true, false, not, ◌&&◌, ◌||◌, ◌==◌, nat_eq, nat_lt, List, [], ◌∷◌, ◌++◌, map, flat_map, length, count_by, Option, Some, None, option_map, option_and_then, slice_get, is_some, bytes_eq, cond}
+use Rattle.std.specs.Prelude.{ℕ, Bool, true, false, not, ◌&&◌, ◌||◌, ◌==◌, nat_eq, nat_lt, List, [], ◌∷◌, ◌++◌, map, flat_map, length, count_by, Option, Some, None, option_map, option_and_then, slice_get, bytes_eq, cond}
 use Rattle.std.specs.Option.{option_map_or}
 use Rattle.std.specs.List.{list_all, list_any, range_with_len}
 use Rattle.lrc_base.specs.declared.grammar.Kind.{Kind}
@@ -14,7 +14,7 @@ use Rattle.lrc_base.specs.declared.grammar.Piece.TheVariants as piece
 use Rattle.lrc_base.specs.declared.grammar.Production.{Production}
 use Rattle.lrc_base.specs.declared.expr.Op.{Op}
 use Rattle.lrc_base.specs.declared.expr.Op.TheVariants as o
-use Rattle.lrc_meaning.specs.Tree.{Tree, int, bool, name, node, same_kind, is_sort, kind_of, kids_of}
+use Rattle.lrc_meaning.specs.Tree.{same_kind, is_sort, kind_of}
 use Rattle.lrc_meaning.specs.Expression.{Expression, literal, occurrence, leaf, binary, choice, make, Expressions, no_more, and_more, expression}
 
 -- A grammar: sorts, productions, and the number of the start sort. Sorts, productions, children and attributes

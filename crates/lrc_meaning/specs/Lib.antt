@@ -6,3 +6,4 @@ pub mod Editing
 pub mod Text
 pub mod Naming
 pub mod Plain
+pub mod Examples

@@ -2,16 +2,14 @@
 --
 -- Of the items of a production, equations of left attributes are read, and of expressions numbers, references and
 -- operators; the other forms are not read yet, and stand for nothing here.
-use Rattle.std.specs.Prelude.{◌≡◌, ℕ, Bool, true, false, ℤ, List, [], ◌∷◌, ◌++◌, map, flat_map, position, Option, Some, None, option_map, option_and_then, slice_get, is_some, bytes_eq, ◌&&◌, cond}
+use Rattle.std.specs.Prelude.{ℕ, Bool, true, false, List, [], ◌∷◌, ◌++◌, map, flat_map, position, Option, Some, None, option_map, option_and_then, bytes_eq, ◌&&◌, cond}
 use Rattle.lrc_base.specs.declared.grammar.Kind.{Kind}
 use Rattle.lrc_base.specs.declared.grammar.Kind.TheVariants as k
 use Rattle.lrc_base.specs.declared.grammar.Attr.{Attr}
 use Rattle.lrc_base.specs.declared.grammar.Sort.{Sort}
 use Rattle.lrc_base.specs.declared.grammar.Kid.{Kid}
-use Rattle.lrc_base.specs.declared.grammar.Extra.{Extra}
 use Rattle.lrc_base.specs.declared.grammar.Equation.{Equation}
 use Rattle.lrc_base.specs.declared.grammar.Production.{Production}
-use Rattle.lrc_base.specs.declared.expr.Op.{Op}
 use Rattle.lrc_base.specs.declared.expr.Expr.{Expr}
 use Rattle.lrc_base.specs.declared.expr.Expr.TheVariants as e
 use Rattle.lrc_base.specs.declared.raw.RawKind.{RawKind}
@@ -29,7 +27,7 @@ use Rattle.lrc_base.specs.declared.raw.RawExpr.TheFolds.{fold-RawExpr}
 use Rattle.lrc_base.specs.declared.raw.RawTerm.{RawTerm}
 use Rattle.lrc_base.specs.declared.raw.RawTerm.TheOpen.{RawTerm-F}
 use Rattle.lrc_base.specs.declared.raw.RawTerm.TheFolds.{fold-RawTerm}
-use Rattle.lrc_meaning.specs.Tree.{Tree, int, bool, name, node, Trees, row, is_sort}
+use Rattle.lrc_meaning.specs.Tree.{Tree, int, bool, name, node, row, is_sort}
 use Rattle.lrc_meaning.specs.Grammar.{Grammar, attrs_of_sort, attrs_of}
 
 -- each of a list, where there is each

@@ -1,5 +1,5 @@
 -- Abstract syntax trees over the productions of a grammar, what fits where, places, and replacing.
-use Rattle.std.specs.Prelude.{◌≡◌, ℕ, zero, suc, ◌+◌, max, Bool, true, false, not, ◌&&◌, ℤ, List, [], ◌∷◌, Option, Some, None, option_map, slice_get, nat_eq, bytes_eq, is_some}
+use Rattle.std.specs.Prelude.{ℕ, zero, suc, max, Bool, true, false, not, ◌&&◌, ℤ, List, [], ◌∷◌, Option, Some, None, option_map, slice_get, nat_eq, bytes_eq}
 use Rattle.std.specs.Ordering.{int_eq}
 use Rattle.std.specs.Option.{option_map_or}
 use Rattle.lrc_base.specs.declared.grammar.Kind.{Kind}

@@ -1,5 +1,33 @@
-//! What the results of the other crates are compared with: definitions, and a few worked examples of them.
+//! What the results of the other crates are compared with: definitions, in `specs/`, of trees,
+//! expressions, grammars, attribution, editing rules, printed texts and the numbering of names.
+//!
+//! The functions here do nothing; each carries a law as its contract: worked examples by which a
+//! reader can try the definitions.
 #![tactic(auto)]
 
-/// A placeholder until the first law stands here.
-pub fn nothing() {}
+ghost use Rattle.std.specs.Prelude.{◌≡◌, ℕ, pos, [], ◌∷◌, IsTrue, true};
+ghost use Rattle.lrc_meaning.specs.Tree.{Tree, int, fits};
+ghost use Rattle.lrc_meaning.specs.Grammar.{is_well_formed};
+ghost use Rattle.lrc_meaning.specs.Attribution.{Attributes, IsAttribution};
+ghost use Rattle.lrc_meaning.specs.Examples.{sums, one_and_two, decorated_sum, declarations, two_declarations};
+
+/// The sum grammar and the declarations grammar are well formed.
+pub fn examples_are_well_formed()
+    ensures sums { IsTrue (is_well_formed sums) }
+    ensures declarations { IsTrue (is_well_formed declarations) }
+{}
+
+/// `Add(Num(1), Num(2))` has the value 3, within two nodes.
+pub fn three_nodes_have_their_sum()
+    ensures { Attributes sums 2 one_and_two (int (pos 3) ∷ []) }
+{}
+
+/// A decorated tree with one wrong value is no attribution.
+pub fn a_wrong_value_is_no_attribution()
+    ensures { ¬ IsAttribution sums one_and_two (decorated_sum 4) }
+{}
+
+/// Two declarations under an inherited environment, with a local each: both are bad.
+pub fn two_declarations_are_bad()
+    ensures { Attributes declarations 4 two_declarations (int (pos 2) ∷ []) }
+{}

@@ -1,0 +1,4 @@
+pub mod Runs
+pub mod DecimalLemmas
+pub mod NextLemmas
+pub mod TokensLemmas
