@@ -1,5 +1,8 @@
+ghost use Rattle.std.specs.Prelude.{◌≡◌, IfOk};
+
 use crate::name::NameText;
 use sqlite_items::Items;
+use std::alloc::{AllocError, Global};
 
 /// A tree over the productions of a grammar, or a leaf.
 #[derive(Debug, Drop)]
@@ -9,4 +12,28 @@ pub enum Term {
     Name(NameText),
     /// The number of a production, and its children.
     Node(u32, Items<Term>),
+}
+
+impl Term {
+    /// An equal term, with memory of its own.
+    ///
+    /// # Errors
+    ///
+    /// Want of memory.
+    pub fn copy(&self, alloc: Global) -> Result<Term, AllocError>
+        ensures { IfOk result (λ copy. copy ≡ self.now) }
+    {
+        match self {
+            Term::Int(number) => Ok(Term::Int(*number)),
+            Term::Bool(truth) => Ok(Term::Bool(*truth)),
+            Term::Name(name) => Ok(Term::Name(*name)),
+            Term::Node(production, kids) => {
+                let mut copies = Items::new(alloc);
+                for kid in kids.as_slice() {
+                    copies.push(kid.copy(alloc)?)?;
+                }
+                Ok(Term::Node(*production, copies))
+            }
+        }
+    }
 }

@@ -1,10 +1,10 @@
 -- What `next` says of the text: by its first character, and that a token is the longest one there.
-use Rattle.std.proofs.Common.{◌≡◌, ℕ, zero, suc, ◌+◌, ◌-◌, ◌<◌, ◌≤◌, ◌==◌, Bool, true, false, cond, ◌&&◌, ◌⊎◌, inl, inr, List, [], ◌∷◌, length, get_or, take, drop, sym, ap, refl, ◌∙◌, subst, arith, length-take-le, nat_le}
+use Rattle.std.proofs.Common.{◌≡◌, ℕ, zero, suc, ◌<◌, ◌≤◌, ◌==◌, Bool, true, false, cond, ◌&&◌, inl, inr, List, [], ◌∷◌, length, get_or, take, drop, sym, ap, refl, ◌∙◌, subst, arith, length-take-le, nat_le}
 use Rattle.std.specs.Prelude.{Contains}
-use Rattle.std.proofs.lemmas.List.Elements.{All-contains}
+use Rattle.std.proofs.lemmas.List.Elements.{All-contains, All-cons, All-nil}
 use Rattle.std.specs.Char.{is_ascii_digit}
 use Rattle.std.specs.List.{prefix_len, take_while, AllPass}
-use Rattle.std.proofs.lemmas.Bool.{false≢true, and_parts, and_from, leb-true, eqb-true, eq-eqb}
+use Rattle.std.proofs.lemmas.Bool.{false≢true, and_parts, and_from, leb-true, le-leb, eqb-true, eq-eqb}
 use Rattle.std.proofs.lemmas.List.Sums.{prefix_len-le-length}
 use Rattle.std.proofs.lemmas.List.Folds.{length-prefix_len}
 use Rattle.std.proofs.lemmas.Bool.Decides.{nat_tests}
@@ -15,39 +15,44 @@ use Rattle.lrc_lex.specs.declared.scan.Step.{Step}
 use Rattle.lrc_lex.specs.declared.scan.Step.TheVariants.{End, Skip, Take, Refuse}
 use Rattle.lrc_lex.specs.Decimal.{natural_value, IsNatural}
 use Rattle.lrc_lex.specs.Tokens.{is_blank, starts_word, continues_word, is_symbol, begins_with, word_step, natural_step, symbol_step, next}
-use Rattle.lrc_lex.specs.Longest.{IsDigits, IsToken}
-use Rattle.lrc_lex.proofs.Runs.{passes_in_run, run_is_longest}
+use Rattle.lrc_lex.specs.Longest.{IsDigits, IsToken, IsLongest, IsTaken}
+use Rattle.lrc_lex.proofs.Runs.{passes_in_run, run_is_longest, run_is}
 
--- `next` by the first character
+-- nothing is left
 pub next_end : (text : List ℕ) → length text ≡ 0 → next text ≡ End
 unfolding next
 next_end [] h = refl
 next_end (c ∷ rest) h = absurd (omega arith)
 
+-- a blank stands first
 pub next_blank : (text : List ℕ) → 0 < length text → is_blank (get_or text 0 0) ≡ true → next text ≡ Skip 1
 unfolding next
 next_blank [] h blank = absurd (omega arith)
 next_blank (c ∷ rest) h blank = rw blank
 
+-- a character that begins a word stands first
 pub next_word : (text : List ℕ) → 0 < length text → is_blank (get_or text 0 0) ≡ false → starts_word (get_or text 0 0) ≡ true → next text ≡ word_step (prefix_len continues_word text)
 unfolding next
 next_word [] h blank word = absurd (omega arith)
 next_word (c ∷ rest) h blank word = rw (blank, word)
 
+-- a digit stands first
 pub next_natural : (text : List ℕ) → 0 < length text → is_blank (get_or text 0 0) ≡ false → starts_word (get_or text 0 0) ≡ false → is_ascii_digit (get_or text 0 0) ≡ true → next text ≡ natural_step (take_while is_ascii_digit text)
 unfolding next
 next_natural [] h blank word digit = absurd (omega arith)
 next_natural (c ∷ rest) h blank word digit = rw (blank, word, digit)
 
+-- something else stands first
 pub next_symbol : (text : List ℕ) → 0 < length text → is_blank (get_or text 0 0) ≡ false → starts_word (get_or text 0 0) ≡ false → is_ascii_digit (get_or text 0 0) ≡ false → next text ≡ symbol_step (get_or text 0 0) (drop 1 text)
 unfolding next
 next_symbol [] h blank word digit = absurd (omega arith)
 next_symbol (c ∷ rest) h blank word digit = rw (blank, word, digit)
 
--- what begins a word or a number continues it, and no character begins both
+-- what begins a word continues it
 starts-continues : (c : ℕ) → starts_word c ≡ true → continues_word c ≡ true
 starts-continues c word = grind (arith, nat_tests)
 
+-- no digit begins a word
 no_word_and_digit : (c : ℕ) → starts_word c ≡ true → is_ascii_digit c ≡ true → ⊥
 no_word_and_digit c word digit = grind (arith, nat_tests)
 
@@ -56,6 +61,7 @@ begins_with-take : (test : ℕ → Bool) (c : ℕ) (rest : List ℕ) (n : ℕ) �
 begins_with-take test c rest zero h = absurd (omega arith)
 begins_with-take test c rest (suc n) h = refl
 
+-- where all of a front pass, the first character does
 first_passes : (test : ℕ → Bool) (c : ℕ) (rest : List ℕ) (n : ℕ) → 1 ≤ n → AllPass test (take n (c ∷ rest)) → test c ≡ true
 first_passes test c rest zero h passes = absurd (omega arith)
 first_passes test c rest (suc n) h passes = passes 0 0 (omega arith)
@@ -73,6 +79,7 @@ pub record IsNext (left : List ℕ) (class : TokenClass) (n : ℕ) : Type 0 wher
   pub longest : (other : TokenClass) (m : ℕ) → n < m → m ≤ length left → IsToken other (take m left) → ⊥
   pub name : class ≡ Word → IsName (take n left)
   pub number : class ≡ Natural → IsNatural (take n left)
+  pub taken : IsTaken class (take n left)
 
 -- no token of any class is longer than n
 record NoLonger (c : ℕ) (rest : List ℕ) (n : ℕ) : Type 0 where
@@ -81,6 +88,7 @@ record NoLonger (c : ℕ) (rest : List ℕ) (n : ℕ) : Type 0 where
   negative : (m : ℕ) → n < m → m ≤ length (c ∷ rest) → c ≡ 45 → IsDigits (drop 1 (take m (c ∷ rest))) → ⊥
   equality : (m : ℕ) → n < m → m ≤ length (c ∷ rest) → take m (c ∷ rest) ≡ 61 ∷ 61 ∷ [] → ⊥
 
+-- so no token is
 longest_by : (c : ℕ) (rest : List ℕ) (n : ℕ) → 1 ≤ n → NoLonger c rest n → (other : TokenClass) (m : ℕ) → n < m → m ≤ length (c ∷ rest) → IsToken other (take m (c ∷ rest)) → ⊥
 longest_by c rest n some none Word m longer within h = none.word m longer within (sym (begins_with-take starts_word c rest m (omega arith)) ∙ h.0) h.1
 longest_by c rest n some none Natural m longer within h = none.natural m longer within h.1
@@ -100,6 +108,7 @@ word_some c rest word = rw (starts-continues c word) (omega arith)
 no_zero_passes : (bytes : List ℕ) → AllPass continues_word bytes → ¬ Contains bytes 0
 no_zero_passes bytes passes zero_there = false≢true (All-contains (λ b. continues_word b ≡ true) bytes 0 passes zero_there)
 
+-- the longest run of a word's characters is a word, where it is short enough
 word_is_next : (c : ℕ) (rest : List ℕ) → starts_word c ≡ true → prefix_len continues_word (c ∷ rest) ≤ 64 → IsNext (c ∷ rest) Word (prefix_len continues_word (c ∷ rest))
 word_is_next c rest word short =
     let some = word_some c rest word in
@@ -117,11 +126,14 @@ word_is_next c rest word short =
       });
       name = λ _. record { some = omega (arith, long); at_most = omega (arith, long); no_zero = no_zero_passes _ passes };
       number = λ e. cc;
+      taken = omega (arith, long);
     }
 
+-- a number has one digit or more
 natural_some : (c : ℕ) (rest : List ℕ) → is_ascii_digit c ≡ true → 1 ≤ prefix_len is_ascii_digit (c ∷ rest)
 natural_some c rest digit = rw digit (omega arith)
 
+-- the longest run of digits is a number, where its value fits
 natural_is_next : (c : ℕ) (rest : List ℕ) → is_ascii_digit c ≡ true → natural_value (take_while is_ascii_digit (c ∷ rest)) ≤ 9223372036854775807 → IsNext (c ∷ rest) Natural (prefix_len is_ascii_digit (c ∷ rest))
 natural_is_next c rest digit fits =
     let some = natural_some c rest digit in
@@ -139,6 +151,7 @@ natural_is_next c rest digit fits =
       });
       name = λ e. cc;
       number = λ _. record { some = omega (arith, long); digits_only = passes; in_range = fits };
+      taken = fits;
     }
 
 -- digits behind the first character
@@ -148,7 +161,7 @@ digits_after c rest (suc zero) some h = absurd (omega (arith, h.0))
 digits_after c [] (suc (suc m)) some h = absurd (omega (arith, h.0))
 digits_after c (d ∷ rest) (suc (suc m)) some h = h.1 0 0 (omega arith)
 
--- two `=`, and the second where it stands
+-- two `=` are one symbol
 equality_is_next : (c : ℕ) (rest : List ℕ) → c ≡ 61 → begins_with (λ d. d == 61) rest ≡ true → IsNext (c ∷ rest) Symbol 2
 equality_is_next c [] first second = absurd (false≢true second)
 equality_is_next c (d ∷ rest) first second =
@@ -165,6 +178,7 @@ equality_is_next c (d ∷ rest) first second =
       });
       name = λ e. cc;
       number = λ e. cc;
+      taken = tt;
     }
 
 -- the second character of a front that is `==`
@@ -174,20 +188,22 @@ second_of_front c rest (suc zero) e = cc
 second_of_front c [] (suc (suc n)) e = cc
 second_of_front c (d ∷ rest) (suc (suc n)) e = let second : d ≡ 61 = cc in eq-eqb d 61 second
 
+-- a symbol of one character, where no longer token begins with it
 symbol_is_next : (c : ℕ) (rest : List ℕ) → is_symbol c ≡ true → starts_word c ≡ false → is_ascii_digit c ≡ false → (c == 61 && begins_with (λ d. d == 61) rest) ≡ false → (c == 45 && begins_with is_ascii_digit rest) ≡ false → IsNext (c ∷ rest) Symbol 1
 symbol_is_next c rest symbol no_word no_digit no_equality no_negative = record {
-      some = omega arith;
-      within = omega arith;
-      form = inl (refl, symbol);
-      longest = longest_by c rest 1 (omega arith) (record {
-        word = λ m longer within word _. false≢true (sym no_word ∙ word);
-        natural = λ m longer within h. false≢true (sym no_digit ∙ first_passes is_ascii_digit c rest m (omega arith) h);
-        negative = λ m longer within e h. false≢true (sym no_negative ∙ and_from _ _ (eq-eqb c 45 e) (digits_after c rest m (omega arith) h));
-        equality = λ m longer within e. false≢true (sym no_equality ∙ and_from _ _ (eq-eqb c 61 (first_of_front c rest m (omega arith) e)) (second_of_front c rest m e));
-      });
-      name = λ e. cc;
-      number = λ e. cc;
-    }
+  some = omega arith;
+  within = omega arith;
+  form = inl (refl, symbol);
+  longest = longest_by c rest 1 (omega arith) (record {
+    word = λ m longer within word _. false≢true (sym no_word ∙ word);
+    natural = λ m longer within h. false≢true (sym no_digit ∙ first_passes is_ascii_digit c rest m (omega arith) h);
+    negative = λ m longer within e h. false≢true (sym no_negative ∙ and_from _ _ (eq-eqb c 45 e) (digits_after c rest m (omega arith) h));
+    equality = λ m longer within e. false≢true (sym no_equality ∙ and_from _ _ (eq-eqb c 61 (first_of_front c rest m (omega arith) e)) (second_of_front c rest m e));
+  });
+  name = λ e. cc;
+  number = λ e. cc;
+  taken = tt;
+}
 
 -- What a step says of the text.
 abbrev pub Says : List ℕ → Step → Type 0
@@ -196,6 +212,7 @@ Says left (Skip n) = (1 ≤ n) × (n ≤ length left)
 Says left (Take class n) = IsNext left class n
 Says left Refuse = Unit {0}
 
+-- the step of a word, a number and a symbol
 word_says : (c : ℕ) (rest : List ℕ) → starts_word c ≡ true → Says (c ∷ rest) (word_step (prefix_len continues_word (c ∷ rest)))
 word_says c rest word = over (nat_le (prefix_len continues_word (c ∷ rest)) 64) refl
   where
@@ -230,3 +247,100 @@ next_says (c ∷ rest) = over (is_blank c) (starts_word c) (is_ascii_digit c) re
     over false true digit e f = word_says c rest e
     over false false true e f = natural_says c rest f
     over false false false e f = symbol_says c rest e f
+
+-- a taken token is the longest one, and within its limit
+pub longest_from_next : (left : List ℕ) (class : TokenClass) (n : ℕ) → next left ≡ Take class n → IsLongest left class n × IsTaken class (take n left)
+longest_from_next left class n e =
+    let step : IsNext left class n = subst (Says left) e (next_says left) in
+    (record { within = step.within; form = step.form; longest = step.longest }, step.taken)
+
+-- what begins a word is no blank
+word_alone : (c : ℕ) → starts_word c ≡ true → is_blank c ≡ false
+word_alone c word = grind (arith, nat_tests)
+
+-- a digit is no blank, and begins no word
+digit_alone : (c : ℕ) → is_ascii_digit c ≡ true → (is_blank c ≡ false) × (starts_word c ≡ false)
+digit_alone c digit = (grind (arith, nat_tests), grind (arith, nat_tests))
+
+-- a symbol is no blank, and begins neither a word nor a number
+symbol_alone : (c : ℕ) → is_symbol c ≡ true → (is_blank c ≡ false) × (starts_word c ≡ false) × (is_ascii_digit c ≡ false)
+symbol_alone c symbol = (grind (arith, nat_tests), grind (arith, nat_tests), grind (arith, nat_tests))
+
+-- the longest word is taken, where it is short enough
+word_taken : (left : List ℕ) (n : ℕ) → IsLongest left Word n → length (take n left) ≤ 64 → next left ≡ Take Word n
+word_taken left zero token short = absurd (false≢true token.form.0)
+word_taken [] (suc n) token short = absurd (false≢true token.form.0)
+word_taken (c ∷ rest) (suc n) token short =
+    let word : starts_word c ≡ true = token.form.0 in
+    let run : prefix_len continues_word (c ∷ rest) ≡ suc n = run_is continues_word (c ∷ rest) (suc n) token.within token.form.1 (λ longer passes. token.longest Word _ longer (prefix_len-le-length continues_word (c ∷ rest)) (begins_with-take starts_word c rest _ (word_some c rest word) ∙ word, passes)) in
+    let fits : suc n ≤ 64 = omega (arith, length-take-le (suc n) (c ∷ rest) token.within) in
+    next_word (c ∷ rest) (omega arith) (word_alone c word) word ∙ ap word_step run ∙ ap (λ b. cond b (Take Word (suc n)) Refuse) (le-leb (suc n) 64 fits)
+
+-- the longest number is taken, where its value fits
+natural_taken : (left : List ℕ) (n : ℕ) → IsLongest left Natural n → natural_value (take n left) ≤ 9223372036854775807 → next left ≡ Take Natural n
+natural_taken left zero token fits = absurd (omega (arith, token.form.0))
+natural_taken [] (suc n) token fits = absurd (omega (arith, token.form.0))
+natural_taken (c ∷ rest) (suc n) token fits =
+    let digit : is_ascii_digit c ≡ true = token.form.1 0 0 (omega arith) in
+    let alone = digit_alone c digit in
+    let run : prefix_len is_ascii_digit (c ∷ rest) ≡ suc n = run_is is_ascii_digit (c ∷ rest) (suc n) token.within token.form.1 (λ longer passes. token.longest Natural _ longer (prefix_len-le-length is_ascii_digit (c ∷ rest)) (omega (arith, natural_some c rest digit, length-prefix_len is_ascii_digit (c ∷ rest)), passes)) in
+    let text : take_while is_ascii_digit (c ∷ rest) ≡ take (suc n) (c ∷ rest) = ap (λ k. take k (c ∷ rest)) run in
+    next_natural (c ∷ rest) (omega arith) alone.0 alone.1 digit ∙ ap natural_step text ∙ ap (λ b. cond b (Take Natural (length (take (suc n) (c ∷ rest)))) Refuse) (le-leb _ 9223372036854775807 fits) ∙ ap (Take Natural) (length-take-le (suc n) (c ∷ rest) token.within)
+
+-- what isn't true is false
+false_from_not : (b : Bool) → ¬ (b ≡ true) → b ≡ false
+false_from_not true h = absurd (h refl)
+false_from_not false h = refl
+
+-- the first of two `=` isn't the longest token
+equality_longer : (c : ℕ) (rest : List ℕ) → (c == 61 && begins_with (λ d. d == 61) rest) ≡ true → IsLongest (c ∷ rest) Symbol 1 → ⊥
+equality_longer c [] both token = false≢true (and_parts _ _ both).1
+equality_longer c (d ∷ rest) both token =
+    let parts = and_parts _ _ both in
+    let first : c ≡ 61 = eqb-true c 61 parts.0 in
+    let second : d ≡ 61 = eqb-true d 61 parts.1 in
+    token.longest Symbol 2 (omega arith) (omega arith) (inr (cc))
+
+-- neither is a `-` before a digit
+negative_longer : (c : ℕ) (rest : List ℕ) → (c == 45 && begins_with is_ascii_digit rest) ≡ true → IsLongest (c ∷ rest) Symbol 1 → ⊥
+negative_longer c [] both token = false≢true (and_parts _ _ both).1
+negative_longer c (d ∷ rest) both token =
+    let parts = and_parts _ _ both in
+    token.longest Negative 2 (omega arith) (omega arith) (parts.0, (omega arith, All-cons (λ b. is_ascii_digit b ≡ true) d [] parts.1 (All-nil (λ b. is_ascii_digit b ≡ true))))
+
+-- a symbol of one character is taken
+one_taken : (c : ℕ) (rest : List ℕ) → is_symbol c ≡ true → IsLongest (c ∷ rest) Symbol 1 → next (c ∷ rest) ≡ Take Symbol 1
+one_taken c rest symbol token =
+    let alone = symbol_alone c symbol in
+    let no_equality = false_from_not _ (λ both. equality_longer c rest both token) in
+    let no_negative = false_from_not _ (λ both. negative_longer c rest both token) in
+    next_symbol (c ∷ rest) (omega arith) alone.0 alone.1 alone.2 ∙ rw (no_equality, no_negative, symbol) refl
+
+-- two `=` are taken
+two_taken : (c : ℕ) (rest : List ℕ) → c ≡ 61 → begins_with (λ d. d == 61) rest ≡ true → next (c ∷ rest) ≡ Take Symbol 2
+two_taken c rest first second =
+    next_symbol (c ∷ rest) (omega arith) (subst (λ b. is_blank b ≡ false) (sym first) refl) (subst (λ b. starts_word b ≡ false) (sym first) refl) (subst (λ b. is_ascii_digit b ≡ false) (sym first) refl) ∙ ap (λ b. cond b (Take Symbol 2) (cond (c == 45 && begins_with is_ascii_digit rest) Refuse (cond (is_symbol c) (Take Symbol 1) Refuse))) (and_from _ _ (eq-eqb c 61 first) second)
+
+-- the longest symbol is taken
+symbol_taken : (left : List ℕ) (n : ℕ) → IsLongest left Symbol n → next left ≡ Take Symbol n
+symbol_taken left zero token = elim token.form [ inl one ↦ absurd (omega (arith, one.0)) | inr two ↦ cc ]
+symbol_taken [] (suc n) token = elim token.form [ inl one ↦ absurd (omega (arith, one.0)) | inr two ↦ cc ]
+symbol_taken (c ∷ rest) (suc n) token =
+    elim token.form [
+      | inl one ↦
+          let only : 1 ≡ suc n = omega (arith, one.0, length-take-le (suc n) (c ∷ rest) token.within) in
+          subst (λ k. next (c ∷ rest) ≡ Take Symbol k) only (one_taken c rest one.1 (subst (IsLongest (c ∷ rest) Symbol) (sym only) token))
+      | inr two ↦
+          let both : 2 ≡ suc n = omega (arith, ap length two, length-take-le (suc n) (c ∷ rest) token.within) in
+          subst (λ k. next (c ∷ rest) ≡ Take Symbol k) both (two_taken c rest (first_of_front c rest (suc n) (omega arith) two) (second_of_front c rest (suc n) two))
+    ]
+
+-- the longest token within its limit is taken
+pub next_from_longest : (left : List ℕ) (class : TokenClass) (n : ℕ) → IsLongest left class n → IsTaken class (take n left) → next left ≡ Take class n
+next_from_longest left Word n token taken = word_taken left n token taken
+next_from_longest left Natural n token taken = natural_taken left n token taken
+next_from_longest left Symbol n token taken = symbol_taken left n token
+next_from_longest left Negative n token taken = absurd taken
+next_from_longest left NameLit n token taken = absurd taken
+next_from_longest left Text n token taken = absurd taken
+next_from_longest left Path n token taken = absurd taken

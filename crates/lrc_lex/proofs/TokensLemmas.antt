@@ -1,5 +1,5 @@
 -- The list of a text's tokens: there is at most one, each of its tokens is the longest at its place, and reading on completes it.
-use Rattle.std.proofs.Common.{◌≡◌, ℕ, ◌+◌, ◌-◌, ◌<◌, ◌≤◌, List, [], ◌∷◌, ◌++◌, length, take, drop, sym, ap, refl, ◌∙◌, subst, arith, length-drop, append_assoc, add-zero}
+use Rattle.std.proofs.Common.{◌≡◌, ℕ, ◌+◌, ◌-◌, ◌≤◌, List, [], ◌∷◌, ◌++◌, length, take, drop, sym, ap, refl, ◌∙◌, subst, arith, length-drop, append_assoc}
 use Rattle.std.specs.Prelude.{All, slice_range}
 use Rattle.std.proofs.lemmas.List.{append-nil, drop-drop, take_rest}
 use Rattle.std.proofs.lemmas.List.Elements.{All-nil, All-cons}
@@ -8,7 +8,7 @@ use Rattle.lrc_lex.specs.declared.Token.{Token}
 use Rattle.lrc_lex.specs.declared.scan.Step.{Step}
 use Rattle.lrc_lex.specs.declared.scan.Step.TheVariants.{End, Skip, Take, Refuse}
 use Rattle.lrc_lex.specs.Tokens.{next, token_at, TokensFrom, ends, skips, takes, Tokens}
-use Rattle.lrc_lex.specs.Longest.{IsToken, IsTokenOf}
+use Rattle.lrc_lex.specs.Longest.{IsTokenOf}
 use Rattle.lrc_lex.proofs.NextLemmas.{IsNext, Says, next_says}
 
 -- what the code reads at a place is what stands there
@@ -69,10 +69,10 @@ pub record Reads (text : List ℕ) (found : List Token) (at : ℕ) : Type 0 wher
 
 pub reads_none : (text : List ℕ) → Reads text [] 0
 reads_none text = record {
-      within = omega arith;
-      completes = λ rest tokens. tokens;
-      only = λ all tokens. (all, tokens);
-    }
+  within = omega arith;
+  completes = λ rest tokens. tokens;
+  only = λ all tokens. (all, tokens);
+}
 
 -- the step at a place decides what follows
 past_skip : {left : List ℕ} {at : ℕ} {n : ℕ} {rest : List Token} → TokensFrom left at rest → next left ≡ Skip n → TokensFrom (drop n left) (at + n) rest

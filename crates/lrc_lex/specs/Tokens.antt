@@ -1,5 +1,5 @@
 -- The tokens of a text.
-use Rattle.std.specs.Prelude.{◌≡◌, ℕ, ◌+◌, ◌==◌, ◌≤◌, Bool, true, false, ◌&&◌, ◌||◌, if◌then◌else◌, nat_le, List, [], ◌∷◌, length, drop, codes}
+use Rattle.std.specs.Prelude.{◌≡◌, ℕ, ◌+◌, ◌==◌, Bool, false, ◌&&◌, ◌||◌, if◌then◌else◌, nat_le, List, [], ◌∷◌, length, drop, codes}
 use Rattle.std.specs.Char.{is_ascii_digit, is_ascii_alphabetic, is_ascii_alphanumeric}
 use Rattle.std.specs.List.{prefix_len, take_while, list_any}
 use Rattle.lrc_lex.specs.declared.TokenClass.{TokenClass}
@@ -13,7 +13,7 @@ use Rattle.lrc_lex.specs.Decimal.{natural_value}
 abbrev pub is_blank : ℕ → Bool
 is_blank c = c == 32 || c == 9 || c == 10 || c == 13
 
--- a letter, or `_`
+-- a letter, or `_`, which is 95
 abbrev pub starts_word : ℕ → Bool
 starts_word c = is_ascii_alphabetic c || c == 95
 
@@ -38,7 +38,7 @@ word_step n = if nat_le n 64 then Take Word n else Refuse
 abbrev pub natural_step : List ℕ → Step
 natural_step digits = if nat_le (natural_value digits) 9223372036854775807 then Take Natural (length digits) else Refuse
 
--- a symbol that begins with c, the longest one. A `-` before a digit begins a negative number, which isn't taken yet
+-- the longest symbol that begins with c; 61 is `=`, and 45 is `-`. A `-` before a digit begins a negative number, which isn't taken yet
 abbrev pub symbol_step : ℕ → List ℕ → Step
 symbol_step c rest =
     if c == 61 && begins_with (λ d. d == 61) rest then Take Symbol 2

@@ -1,35 +1,42 @@
-//! Cuts the text of a job into tokens.
+//! Cuts the text of a job into tokens, the longest one at each place.
 #![tactic(auto)]
 
-ghost use Rattle.std.specs.Prelude.{◌≡◌, ℕ, ◌≤◌, List as Sequence, length, All, IfOk, IsErrOf};
-ghost use Rattle.lrc_lex.specs.Tokens.{Tokens};
-ghost use Rattle.lrc_lex.specs.Longest.{IsTokenOf};
+ghost use Rattle.std.specs.Prelude.{◌≡◌, ℕ, ◌≤◌, ◌↔◌, List as Sequence, length, take, All, IfOk, IsErrOf};
+ghost use Rattle.lrc_lex.specs.Tokens.{next, Tokens};
+ghost use Rattle.lrc_lex.specs.declared.scan.Step.TheVariants.{Take};
+ghost use Rattle.lrc_lex.specs.Longest.{IsTokenOf, IsLongest, IsTaken};
 
 mod decimal;
 mod scan;
 
 use crate::scan::{Step, next};
+pub use decimal::natural;
 use lrc_base::{List, Memory};
 use std::alloc::Global;
-
-pub use decimal::natural;
 
 /// The most bytes of a text.
 pub const TEXT_LIMIT: usize = 16_777_216;
 
-/// What a token is.
+/// What a token is. So far only words, naturals and symbols are read.
 #[derive(Debug, Clone, Copy, PartialEq, Eq)]
 pub enum TokenClass {
+    /// A letter or `_`, then letters, digits and `_`: 64 bytes at most.
     Word,
+    /// Decimal digits, whose value is at most 2^63 - 1.
     Natural,
+    /// `-` directly followed by decimal digits.
     Negative,
+    /// `'` directly followed by a word.
     NameLit,
+    /// A text in double quotes.
     Text,
+    /// A place of a tree: `/`, or groups of `/` and digits.
     Path,
+    /// One of `{ } ( ) : ; , . = == < + - *`.
     Symbol,
 }
 
-/// A token of a text: the bytes from `at` up to `end`.
+/// A token of a text: the bytes from `at` up to `end`, counted from 0.
 #[derive(Debug, Clone, Copy, PartialEq, Eq)]
 pub struct Token {
     pub class: TokenClass,
@@ -37,10 +44,13 @@ pub struct Token {
     pub end: u32,
 }
 
-/// Why a text has no tokens here: want of memory, or something in it that isn't read yet.
+/// Why a text has no tokens.
 #[derive(Debug, Clone, Copy, PartialEq, Eq)]
 pub enum LexFault {
+    /// Memory ran out.
     Memory = 5,
+    /// Something stands in the text that isn't read: a comment, a token of another class, a word
+    /// or a natural past its limit, or a byte that begins no token.
     NotBuilt = 6,
 }
 
@@ -54,9 +64,10 @@ impl From<Memory> for LexFault {
     }
 }
 
-/// The tokens of the whole text, in order.
+/// The tokens of the whole text, in order, for words, naturals and symbols that are separated by
+/// spaces, tabs, line feeds and carriage returns.
 pub fn tokens(alloc: Global, text: &[u8]) -> Result<List<Token>, LexFault>
-    requires { length text.now ≤ 16777216 }
+    requires { length text.now ≤ TEXT_LIMIT }
     ensures ok { IfOk result (λ found. Tokens text.now found) }
     ensures each { IfOk result (λ found. All (IsTokenOf text.now) found) }
     ensures not_built { IsErrOf result LexFault.NotBuilt → (found : Sequence Token) → Tokens text.now found → ⊥ }
@@ -82,9 +93,65 @@ pub fn tokens(alloc: Global, text: &[u8]) -> Result<List<Token>, LexFault>
 }
 
 /// What holds of the tokens of any text: there is one list of them at most, and each is the
-/// longest token at its place, of the form of its class.
+/// longest one at its place. A token is taken at the front of a text exactly where it is the
+/// longest one there, and within the limit of its class.
 pub fn token_laws()
     ensures one_list { (text : Sequence ℕ) (found others : Sequence Token) → Tokens text found → Tokens text others → found ≡ others }
     ensures each { (text : Sequence ℕ) (found : Sequence Token) → Tokens text found → All (IsTokenOf text) found }
-{
+    ensures takes { (left : Sequence ℕ) (class : TokenClass) (n : ℕ) → (next left ≡ Take class n) ↔ (IsLongest left class n × IsTaken class (take n left)) }
+{}
+
+#[cfg(test)]
+mod tests {
+    use super::*;
+    use std::test::Fail;
+
+    #[test]
+    fn takes_words_naturals_and_symbols(rt: HostRuntime) -> Result<(), Fail> {
+        let found = tokens(
+            rt.alloc(),
+            b"_a1{}():;,.===<+-*\t\r\n007b - 9223372036854775807",
+        )?;
+        let mut wanted = List::new(rt.alloc());
+        wanted.push(token(TokenClass::Word, 0, 3))?;
+        for at in 3..11 {
+            wanted.push(token(TokenClass::Symbol, at, at + 1))?;
+        }
+        wanted.push(token(TokenClass::Symbol, 11, 13))?;
+        for at in 13..18 {
+            wanted.push(token(TokenClass::Symbol, at, at + 1))?;
+        }
+        wanted.push(token(TokenClass::Natural, 21, 24))?;
+        wanted.push(token(TokenClass::Word, 24, 25))?;
+        wanted.push(token(TokenClass::Symbol, 26, 27))?;
+        wanted.push(token(TokenClass::Natural, 28, 47))?;
+        assert_eq!(rt; found.as_slice(), wanted.as_slice());
+        assert_eq!(rt; natural(b"007"), 7);
+        Ok(())
+    }
+
+    fn token(class: TokenClass, at: u32, end: u32) -> Token {
+        Token { class, at, end }
+    }
+
+    #[test]
+    fn refuses_the_rest(rt: HostRuntime) {
+        let long_word = [b'a'; 65];
+        let refused = [
+            b"a # b".as_slice(),
+            b"'a",
+            b"\"a\"",
+            b"/1",
+            b"a -1",
+            b"a\xc3\xa9",
+            b"a\0",
+            b"$",
+            b"9223372036854775808",
+            long_word.as_slice(),
+        ];
+        for text in refused {
+            assert!(rt; text.len() <= TEXT_LIMIT);
+            assert_eq!(rt; tokens(rt.alloc(), text).err(), Some(LexFault::NotBuilt));
+        }
+    }
 }

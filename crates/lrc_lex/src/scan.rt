@@ -63,7 +63,9 @@ fn word_length(text: &[u8]) -> usize
     ensures length { result ≡ prefix_len continues_word text.now }
     ensures within { result ≤ length text.now }
 {
-    text.iter().take_while(|byte| continues_word(**byte)).count()
+    text.iter()
+        .take_while(|byte| continues_word(**byte))
+        .count()
 }
 
 /// The length of the longest run of digits.

@@ -1,8 +1,8 @@
 -- The steps of the readings of lists and chains: one item more, the end, and a stop.
-use Rattle.std.proofs.Common.{◌≡◌, ℕ, suc, ◌<◌, ◌≤◌, eqb, ltb, Bool, true, false, cond, List, [], ◌∷◌, ◌++◌, length, refl, sym, ap, ◌∙◌, arith}
+use Rattle.std.proofs.Common.{◌≡◌, ℕ, suc, ◌+◌, ◌<◌, ◌≤◌, true, false, cond, List, [], ◌∷◌, ◌++◌, length, sym, ap, ◌∙◌}
 use Rattle.std.proofs.lemmas.Bool.{lt-ltb, le-ltb, eq-eqb, ne_eqb}
-use Rattle.lrc_parse.specs.Kinds.{has, starts}
-use Rattle.lrc_parse.specs.Reading.{Cause, expected, Reading, took, stops, on_took, read_of, read_within, read_skip, read_loop, read_push, read_many, read_push_most, read_most, read_others, read_separated, read_others_most, read_separated_most, read_joined, read_chain}
+use Rattle.lrc_parse.specs.Kinds.{starts}
+use Rattle.lrc_parse.specs.Reading.{Cause, expected, Reading, took, stops, on_took, read_of, read_skip, read_push, read_many, read_push_most, read_most, read_others, read_separated, read_others_most, read_separated_most, read_joined, read_chain, read_join_most, read_joined_most, read_folded_most}
 use Rattle.lrc_parse.proofs.Steps.{read_of_took, read_of_stops, read_skip_took, read_within_room, read_within_passed, read_within_other}
 use Rattle.lrc_parse.proofs.Loops.{read_loop_end, read_loop_stops, read_loop_more}
 
@@ -87,7 +87,7 @@ module _ {T : Type 0} (kind : T → ℕ) where
   unfolding read_others read_push
   read_others_stops k item xs t u r c e f =
       read_loop_stops kind (k ∷ []) (λ ys. read_skip kind k (read_push item ys)) xs (t ∷ u) r c (starts_here k t u e)
-        (read_skip_took kind k (read_push item xs) t u e ∙ read_of_stops _ item u r c f)
+      (read_skip_took kind k (read_push item xs) t u e ∙ read_of_stops _ item u r c f)
 
   pub read_others_more : {A : Type 0} (k : ℕ) (item : List T → Reading T A) (xs : List A) (t : T) (u r : List T) (x : A) →
       kind t ≡ k → item u ≡ took x r → length r < suc (length u) →
@@ -95,7 +95,7 @@ module _ {T : Type 0} (kind : T → ℕ) where
   unfolding read_others read_push
   read_others_more k item xs t u r x e f l =
       read_loop_more kind (k ∷ []) (λ ys. read_skip kind k (read_push item ys)) xs (xs ++ x ∷ []) (t ∷ u) r (starts_here k t u e)
-        (read_skip_took kind k (read_push item xs) t u e ∙ read_of_took _ item u r x f) l
+      (read_skip_took kind k (read_push item xs) t u e ∙ read_of_took _ item u r x f) l
 
   pub read_separated_stops : {A : Type 0} (k : ℕ) (item : List T → Reading T A) (u r : List T) (c : Cause) →
       item u ≡ stops c r → read_separated kind k item u ≡ stops c r
@@ -117,7 +117,7 @@ module _ {T : Type 0} (kind : T → ℕ) where
   unfolding read_others_most
   others_most_stops k n first cause item xs t u r c e f =
       read_loop_stops kind (k ∷ []) (λ ys. read_skip kind k (read_push_most kind n first cause item ys)) xs (t ∷ u) r c (starts_here k t u e)
-        (read_skip_took kind k (read_push_most kind n first cause item xs) t u e ∙ f)
+      (read_skip_took kind k (read_push_most kind n first cause item xs) t u e ∙ f)
 
   pub read_others_most_stops : {A : Type 0} (k n : ℕ) (first : List ℕ) (cause : Cause) (item : List T → Reading T A) (xs : List A) (t : T) (u r : List T) (c : Cause) →
       kind t ≡ k → length xs < n → item u ≡ stops c r → read_others_most kind k n first cause item xs (t ∷ u) ≡ stops c r
@@ -137,7 +137,7 @@ module _ {T : Type 0} (kind : T → ℕ) where
   unfolding read_others_most
   read_others_most_more k n first cause item xs t u r x e l f h =
       read_loop_more kind (k ∷ []) (λ ys. read_skip kind k (read_push_most kind n first cause item ys)) xs (xs ++ x ∷ []) (t ∷ u) r (starts_here k t u e)
-        (read_skip_took kind k (read_push_most kind n first cause item xs) t u e ∙ push_took n first cause item xs u r x l f) h
+      (read_skip_took kind k (read_push_most kind n first cause item xs) t u e ∙ push_took n first cause item xs u r x l f) h
 
   pub read_separated_most_stops : {A : Type 0} (k n : ℕ) (first : List ℕ) (cause : Cause) (item : List T → Reading T A) (u r : List T) (c : Cause) →
       item u ≡ stops c r → read_separated_most kind k n first cause item u ≡ stops c r
@@ -175,5 +175,60 @@ module _ {T : Type 0} (kind : T → ℕ) where
   unfolding read_chain
   read_chain_more f a first item u r x e = ap (λ o. on_took o (λ y m. read_joined kind f first item y m)) e
 
+  join_took : {A : Type 0} (n : ℕ) (first : List ℕ) (cause : Cause) (f : A → A → A) (item : List T → Reading T A) (count : ℕ) (x : A) (u r : List T) (y : A) →
+      count < n → item u ≡ took y r → read_join_most kind n first cause f item (x, count) u ≡ took (f x y, count + 1) r
+  unfolding read_join_most
+  join_took n first cause f item count x u r y l e =
+      read_within_room kind _ first cause _ u (lt-ltb count n l) ∙ read_of_took _ item u r y e
+
+  joined_most_stops : {A : Type 0} (k n : ℕ) (first : List ℕ) (cause : Cause) (f : A → A → A) (item : List T → Reading T A) (count : ℕ) (x : A) (t : T) (u r : List T) (c : Cause) →
+      kind t ≡ k → read_join_most kind n first cause f item (x, count) u ≡ stops c r →
+      read_joined_most kind k n first cause f item count x (t ∷ u) ≡ stops c r
+  unfolding read_joined_most
+  joined_most_stops k n first cause f item count x t u r c e g =
+      read_of_stops _ _ (t ∷ u) r c (read_loop_stops kind (k ∷ []) (λ z. read_skip kind k (read_join_most kind n first cause f item z)) (x, count) (t ∷ u) r c (starts_here k t u e)
+      (read_skip_took kind k (read_join_most kind n first cause f item (x, count)) t u e ∙ g))
+
+  pub read_joined_most_end : {A : Type 0} (k n : ℕ) (first : List ℕ) (cause : Cause) (f : A → A → A) (item : List T → Reading T A) (count : ℕ) (x : A) (u : List T) →
+      starts kind (k ∷ []) u ≡ false → read_joined_most kind k n first cause f item count x u ≡ took x u
+  unfolding read_joined_most
+  read_joined_most_end k n first cause f item count x u e = read_of_took _ _ u u (x, count) (read_loop_end kind (k ∷ []) _ (x, count) u e)
+
+  pub read_joined_most_stops : {A : Type 0} (k n : ℕ) (first : List ℕ) (cause : Cause) (f : A → A → A) (item : List T → Reading T A) (count : ℕ) (x : A) (t : T) (u r : List T) (c : Cause) →
+      kind t ≡ k → count < n → item u ≡ stops c r → read_joined_most kind k n first cause f item count x (t ∷ u) ≡ stops c r
+  unfolding read_join_most
+  read_joined_most_stops k n first cause f item count x t u r c e l g =
+      joined_most_stops k n first cause f item count x t u r c e (read_within_room kind _ first cause _ u (lt-ltb count n l) ∙ read_of_stops _ item u r c g)
+
+  pub read_joined_most_passed : {A : Type 0} (k n : ℕ) (first : List ℕ) (cause : Cause) (f : A → A → A) (item : List T → Reading T A) (count : ℕ) (x : A) (t : T) (u : List T) →
+      kind t ≡ k → n ≤ count → starts kind first u ≡ true → read_joined_most kind k n first cause f item count x (t ∷ u) ≡ stops cause u
+  unfolding read_join_most
+  read_joined_most_passed k n first cause f item count x t u e l g =
+      joined_most_stops k n first cause f item count x t u u cause e (read_within_passed kind _ first cause _ u (le-ltb count n l) g)
+
+  pub read_joined_most_other : {A : Type 0} (k n : ℕ) (first : List ℕ) (cause : Cause) (f : A → A → A) (item : List T → Reading T A) (count : ℕ) (x : A) (t : T) (u : List T) →
+      kind t ≡ k → n ≤ count → starts kind first u ≡ false → read_joined_most kind k n first cause f item count x (t ∷ u) ≡ stops expected u
+  unfolding read_join_most
+  read_joined_most_other k n first cause f item count x t u e l g =
+      joined_most_stops k n first cause f item count x t u u expected e (read_within_other kind _ first cause _ u (le-ltb count n l) g)
+
+  pub read_joined_most_more : {A : Type 0} (k n : ℕ) (first : List ℕ) (cause : Cause) (f : A → A → A) (item : List T → Reading T A) (count : ℕ) (x : A) (t : T) (u r : List T) (y : A) →
+      kind t ≡ k → count < n → item u ≡ took y r → length r < suc (length u) →
+      read_joined_most kind k n first cause f item count x (t ∷ u) ≡ read_joined_most kind k n first cause f item (count + 1) (f x y) r
+  unfolding read_joined_most read_of
+  read_joined_most_more k n first cause f item count x t u r y e l g h =
+      ap (λ o. on_took o (λ z m. took z.0 m)) (read_loop_more kind (k ∷ []) (λ z. read_skip kind k (read_join_most kind n first cause f item z)) (x, count) (f x y, count + 1) (t ∷ u) r (starts_here k t u e)
+      (read_skip_took kind k (read_join_most kind n first cause f item (x, count)) t u e ∙ join_took n first cause f item count x u r y l g) h)
+
+  pub read_folded_most_stops : {A : Type 0} (k n : ℕ) (first : List ℕ) (cause : Cause) (f : A → A → A) (item : List T → Reading T A) (u r : List T) (c : Cause) →
+      item u ≡ stops c r → read_folded_most kind k n first cause f item u ≡ stops c r
+  unfolding read_folded_most
+  read_folded_most_stops k n first cause f item u r c e = ap (λ o. on_took o (λ x m. read_joined_most kind k n first cause f item 1 x m)) e
+
+  pub read_folded_most_more : {A : Type 0} (k n : ℕ) (first : List ℕ) (cause : Cause) (f : A → A → A) (item : List T → Reading T A) (u r : List T) (x : A) →
+      item u ≡ took x r → read_folded_most kind k n first cause f item u ≡ read_joined_most kind k n first cause f item 1 x r
+  unfolding read_folded_most
+  read_folded_most_more k n first cause f item u r x e = ap (λ o. on_took o (λ y m. read_joined_most kind k n first cause f item 1 y m)) e
+
 -- the steps of loops, lists and chains
-pub ruleset list_steps = (read_loop_end, read_loop_stops, read_loop_more, starts_here, starts_other, read_many_end, read_many_stops, read_many_more, read_most_end, read_most_stops, read_most_passed, read_most_more, read_others_end, read_others_stops, read_others_more, read_separated_stops, read_separated_more, read_others_most_end, read_others_most_stops, read_others_most_passed, read_others_most_other, read_others_most_more, read_separated_most_stops, read_separated_most_more, read_joined_end, read_joined_stops, read_joined_more, read_chain_stops, read_chain_more)
+pub ruleset list_steps = (read_loop_end, read_loop_stops, read_loop_more, starts_here, starts_other, read_many_end, read_many_stops, read_many_more, read_most_end, read_most_stops, read_most_passed, read_most_more, read_others_end, read_others_stops, read_others_more, read_separated_stops, read_separated_more, read_others_most_end, read_others_most_stops, read_others_most_passed, read_others_most_other, read_others_most_more, read_separated_most_stops, read_separated_most_more, read_joined_end, read_joined_stops, read_joined_more, read_chain_stops, read_chain_more, read_joined_most_end, read_joined_most_stops, read_joined_most_passed, read_joined_most_other, read_joined_most_more, read_folded_most_stops, read_folded_most_more)

@@ -1,13 +1,13 @@
 -- Each combinator's reading is exact where its parts' readings are.
-use Rattle.std.proofs.Common.{◌≡◌, ℕ, suc, zero, eqb, Bool, true, false, cond, Option, Some, None, List, [], ◌∷◌, ◌++◌, refl, sym, ap, ◌∙◌, subst, ◌⊎◌, inl, inr, append_assoc}
-use Rattle.std.proofs.lemmas.List.{append-nil}
-use Rattle.std.proofs.lemmas.Bool.{eqb-true, eq-eqb}
+use Rattle.std.proofs.Common.{◌≡◌, ℕ, Bool, true, false, cond, Option, Some, None, List, [], ◌∷◌, ◌++◌, refl, sym, ap, ◌∙◌, subst, inl, inr, append_assoc}
+use Rattle.std.proofs.lemmas.Bool.{eq-eqb}
 use Rattle.lrc_parse.specs.Kinds.{has, disjoint, starts}
 use Rattle.lrc_parse.specs.Language.{Lang, Nothing, Empty, One, Of, Then, Given, Either, Optional, Within, Fixed, Skip, Ends}
-use Rattle.lrc_parse.specs.Reading.{Cause, expected, Reading, took, stops, on_took, token_value, past_token, read_empty, read_one, read_of, read_then, read_given, read_fixed, read_skip, read_ends, read_either, read_optional, read_nothing, read_within}
+use Rattle.lrc_parse.specs.Reading.{Cause, expected, Reading, took, stops, read_empty, read_one, read_of, read_then, read_given, read_fixed, read_skip, read_ends, read_either, read_optional, read_nothing, read_within}
 use Rattle.lrc_parse.specs.Exact.{Shape, Exact, shape_one, shape_empty, shape_then, shape_either, shape_skip, shape_ends}
 use Rattle.lrc_parse.proofs.Sets.{true_not_false, has_left, has_right, apart, clear_left, clear_right}
 use Rattle.lrc_parse.proofs.Steps.{read_one_took, read_of_took, read_given_took, read_fixed_took, read_skip_took, read_either_first, read_either_second, read_within_room}
+use Rattle.lrc_parse.proofs.Same.{then_parts, then_to, then_from, then_same, ends_parts, ends_to, ends_from, ends_same}
 use Rattle.lrc_parse.proofs.Back.{same_value, same_rest, stops_not_took, on_took_back, token_value_back, cond_back, cond_cases, past_token_back}
 
 -- one token at the head of a list that has just one
@@ -33,7 +33,7 @@ module _ {T : Type 0} (kind : T → ℕ) where
     sound = λ u x r h. let w : _ = e.sound u x r (sym (same u) ∙ h) in (w.0, w.1, to _ _ w.2);
     complete = λ p r x m c. same (p ++ r) ∙ e.complete p r x (from p x m) c;
     first = λ t p x m. e.first t p x (from _ _ m);
-    empty = λ x m. e.empty x (from _ _ m)
+    empty = λ x m. e.empty x (from _ _ m);
   }
 
   pub exact_empty : {A : Type 0} (a : A) → Exact kind shape_empty (Empty a) (read_empty a)
@@ -42,7 +42,7 @@ module _ {T : Type 0} (kind : T → ℕ) where
     sound = λ u x r h. ([], same_rest a x u r h, (refl, sym (same_value a x u r h)));
     complete = λ p r x m c. let e : p ≡ [] = m.0 in let f : x ≡ a = m.1 in ap (λ q. took a (q ++ r)) e ∙ ap (λ y. took y r) (sym f);
     first = λ t p x m. absurd (not_nil t p (sym m.0));
-    empty = λ x m. refl
+    empty = λ x m. refl;
   }
 
   pub exact_one : {A : Type 0} (ks : List ℕ) (value : T → Option A) →
@@ -54,8 +54,10 @@ module _ {T : Type 0} (kind : T → ℕ) where
       sound [] x r h = absurd (stops_not_took expected x [] r h)
       sound (t ∷ m) x r h =
           let w : _ = token_value_back (value t) t m x r h in (t ∷ [], ap (λ n. t ∷ n) w.1, (t, refl, w.0))
+
       complete : (p r : List T) (x : A) → One value p x → starts kind [] r ≡ false → read_one value (p ++ r) ≡ took x r
       complete p r x m c = ap (λ q. read_one value (q ++ r)) m.1 ∙ read_one_took value m.0 r x m.2
+
       first : (t : T) (p : List T) (x : A) → One value (t ∷ p) x → has ks (kind t) ≡ true
       first t p x m = ap (λ s. has ks (kind s)) (only_head t m.0 p m.1) ∙ among m.0 x m.2
 
@@ -66,7 +68,7 @@ module _ {T : Type 0} (kind : T → ℕ) where
     sound = sound;
     complete = λ p r y m c. read_of_took f a (p ++ r) r m.0 (e.complete p r m.0 m.1 c) ∙ ap (λ z. took z r) (sym m.2);
     first = λ t p y m. e.first t p m.0 m.1;
-    empty = λ y m. e.empty m.0 m.1
+    empty = λ y m. e.empty m.0 m.1;
   }
     where
       sound : (u : List T) (y : B) (r : List T) → read_of f a u ≡ took y r → (p : List T) × (u ≡ p ++ r) × Of f L p y
@@ -83,8 +85,10 @@ module _ {T : Type 0} (kind : T → ℕ) where
       sound u x r h =
           let w : _ = past_token_back kind k (λ s. took tt s) u x r h in
           (w.0 ∷ [], w.2 ∙ ap (λ m. w.0 ∷ m) (same_rest _ _ _ _ w.4), (w.0, refl, w.3))
+
       complete : (p r : List T) (x : Unit {0}) → Fixed kind k p x → starts kind [] r ≡ false → read_fixed kind k (p ++ r) ≡ took x r
       complete p r x m c = ap (λ q. read_fixed kind k (q ++ r)) m.1 ∙ read_fixed_took kind k m.0 r m.2
+
       first : (t : T) (p : List T) (x : Unit {0}) → Fixed kind k (t ∷ p) x → has (k ∷ []) (kind t) ≡ true
       first t p x m = ap (λ b. cond b true false) (eq-eqb k (kind t) (sym m.2 ∙ ap kind (sym (only_head t m.0 p m.1))))
 
@@ -98,9 +102,11 @@ module _ {T : Type 0} (kind : T → ℕ) where
           let w : _ = past_token_back kind k a u x r h in
           let v : _ = e.sound w.1 x r w.4 in
           (w.0 ∷ v.0, w.2 ∙ ap (λ m. w.0 ∷ m) v.1, (w.0, v.0, refl, w.3, v.2))
+
       complete : (p r : List T) (x : A) → Skip kind k L p x → starts kind s.more r ≡ false → read_skip kind k a (p ++ r) ≡ took x r
       complete p r x m c =
           ap (λ q. read_skip kind k a (q ++ r)) m.2 ∙ read_skip_took kind k a m.0 (m.1 ++ r) m.3 ∙ e.complete m.1 r x m.4 c
+
       first : (t : T) (p : List T) (x : A) → Skip kind k L (t ∷ p) x → has (k ∷ []) (kind t) ≡ true
       first t p x m = ap (λ b. cond b true false) (eq-eqb k (kind t) (sym m.3 ∙ ap kind (sym (same_head t m.0 p m.1 m.2))))
 
@@ -140,64 +146,45 @@ module _ {T : Type 0} (kind : T → ℕ) where
           let v : _ = e.sound u w.0 w.1 w.2 in
           let o : _ = (f w.0).sound w.1 y r w.3 in
           (v.0 ++ o.0, two_parts u v.0 w.1 o.0 r v.1 o.1, (v.0, o.0, w.0, refl, v.2, o.2))
+
       complete : (p r : List T) (y : B) → Given L M p y → starts kind (shape_then s t).more r ≡ false → read_given a b (p ++ r) ≡ took y r
       complete p r y m c =
           ap (λ q. read_given a b (q ++ r)) m.3 ∙ ap (read_given a b) (append_assoc m.0 m.1 r) ∙
           read_given_took a b (m.0 ++ (m.1 ++ r)) (m.1 ++ r) m.2
-            (e.complete m.0 (m.1 ++ r) m.2 m.4 (clear_between s t (M m.2) (b m.2) (f m.2) d m.1 r y m.5 c)) ∙
+          (e.complete m.0 (m.1 ++ r) m.2 m.4 (clear_between s t (M m.2) (b m.2) (f m.2) d m.1 r y m.5 c)) ∙
           (f m.2).complete m.1 r y m.5 (clear_after t.empty t.more s.more r c)
+
       first_of : (t' : T) (p p1 q : List T) (x : A) (y : B) → t' ∷ p ≡ p1 ++ q → L p1 x → M x q y → has (shape_then s t).first (kind t') ≡ true
       first_of t' p [] q x y i l m =
           first_behind s.empty s.first t.first (kind t') (e.empty x l) ((f x).first t' p y (subst (λ w. M x w y) (sym i) m))
       first_of t' p (h ∷ p1) q x y i l m =
           first_there s.empty s.first t.first (kind t')
-            (ap (λ w. has s.first (kind w)) (same_head t' h p (p1 ++ q) i) ∙ e.first h p1 x l)
+          (ap (λ w. has s.first (kind w)) (same_head t' h p (p1 ++ q) i) ∙ e.first h p1 x l)
+
       first : (t' : T) (p : List T) (y : B) → Given L M (t' ∷ p) y → has (shape_then s t).first (kind t') ≡ true
       first t' p y m = first_of t' p m.0 m.1 m.2 y m.3 m.4 m.5
+
       empty_of : (p1 q : List T) (x : A) (y : B) → [] ≡ p1 ++ q → L p1 x → M x q y → (shape_then s t).empty ≡ true
       empty_of [] q x y i l m = both_empty s.empty t.empty (e.empty x l) ((f x).empty y (subst (λ w. M x w y) (sym i) m))
       empty_of (h ∷ p1) q x y i l m = absurd (not_nil h (p1 ++ q) i)
+
       empty : (y : B) → Given L M [] y → (shape_then s t).empty ≡ true
       empty y m = empty_of m.0 m.1 m.2 y m.3 m.4 m.5
 
   pub exact_then : {A B : Type 0} (s t : Shape) (L : Lang T A) (M : Lang T B) (a : List T → Reading T A) (b : List T → Reading T B) →
       disjoint s.more t.first ≡ true → Exact kind s L a → Exact kind t M b → Exact kind (shape_then s t) (Then L M) (read_then a b)
-  unfolding read_then read_given read_of
-  exact_then {A} {B} s t L M a b d e f =
-      exact_as (shape_then s t) (Given L (λ x. Of (λ y. (x, y)) M)) (Then L M) _ (read_then a b)
-        (exact_given s t L (λ x. Of (λ y. (x, y)) M) a (λ x. read_of (λ y. (x, y)) b) d e (λ x. exact_of (λ y. (x, y)) t M b f)) to from same
-    where
-      to : (u : List T) (z : A × B) → Given L (λ x. Of (λ y. (x, y)) M) u z → Then L M u z
-      to u z m = subst (λ v. Then L M u v) (sym m.5.2) (m.0, m.1, m.3, m.4, m.5.1)
-      from : (u : List T) (z : A × B) → Then L M u z → Given L (λ x. Of (λ y. (x, y)) M) u z
-      from u z m = (m.0, m.1, z.0, m.2, m.3, (z.1, m.4, refl))
-      same : (u : List T) → read_then a b u ≡ read_given a (λ x. read_of (λ y. (x, y)) b) u
-      same u = refl
+  exact_then s t L M a b d e f =
+      exact_as (shape_then s t) (then_parts L M) (Then L M) _ (read_then a b)
+      (exact_given s t L (λ x. Of (λ y. (x, y)) M) a (λ x. read_of (λ y. (x, y)) b) d e (λ x. exact_of (λ y. (x, y)) t M b f))
+      (then_to L M) (then_from L M) (then_same a b)
 
   pub exact_ends : {A : Type 0} (s : Shape) (L : Lang T A) (a : List T → Reading T A) (k : ℕ) →
       disjoint s.more (k ∷ []) ≡ true → Exact kind s L a → Exact kind (shape_ends s k) (Ends kind L k) (read_ends kind a k)
-  unfolding read_of read_fixed read_ends read_given
-  exact_ends {A} s L a k d e =
-      exact_as (shape_ends s k) (Given L (λ x. Of (λ _. x) (Fixed kind k))) (Ends kind L k) _ (read_ends kind a k)
-        (exact_given s (shape_one (k ∷ [])) L (λ x. Of (λ _. x) (Fixed kind k)) a (λ x. read_of (λ _. x) (read_fixed kind k)) d e
-          (λ x. exact_of (λ _. x) (shape_one (k ∷ [])) (Fixed kind k) (read_fixed kind k) (exact_fixed k))) to from same
-    where
-      to : (u : List T) (z : A) → Given L (λ x. Of (λ _. x) (Fixed kind k)) u z → Ends kind L k u z
-      to u z m = (m.0, m.5.1.0, m.3 ∙ ap (λ w. m.0 ++ w) m.5.1.1, subst (λ v. L m.0 v) (sym m.5.2) m.4, m.5.1.2)
-      from : (u : List T) (z : A) → Ends kind L k u z → Given L (λ x. Of (λ _. x) (Fixed kind k)) u z
-      from u z m = (m.0, m.1 ∷ [], z, m.2, m.3, (tt, (m.1, refl, m.4), refl))
-      behind : (x : A) (r : List T) → past_token kind k (λ s. took x s) r ≡ read_of (λ _. x) (read_fixed kind k) r
-      behind x [] = refl
-      behind x (t ∷ r) = go (eqb (kind t) k)
-        where
-          go : (b : Bool) → cond b (took x r) (stops expected (t ∷ r)) ≡ on_took (cond b (let o : Unit {0} = tt in took o r) (stops expected (t ∷ r))) (λ _ m. took x m)
-          go true = refl
-          go false = refl
-      under : (o : Reading T A) → on_took o (λ x r. past_token kind k (λ s. took x s) r) ≡ on_took o (λ x. read_of (λ _. x) (read_fixed kind k))
-      under (took x r) = behind x r
-      under (stops c r) = refl
-      same : (u : List T) → read_ends kind a k u ≡ read_given a (λ x. read_of (λ _. x) (read_fixed kind k)) u
-      same u = under (a u)
+  exact_ends s L a k d e =
+      exact_as (shape_ends s k) (ends_parts kind L k) (Ends kind L k) _ (read_ends kind a k)
+      (exact_given s (shape_one (k ∷ [])) L (λ x. Of (λ _. x) (Fixed kind k)) a (λ x. read_of (λ _. x) (read_fixed kind k)) d e
+      (λ x. exact_of (λ _. x) (shape_one (k ∷ [])) (Fixed kind k) (read_fixed kind k) (exact_fixed k)))
+      (ends_to kind L k) (ends_from kind L k) (ends_same kind a k)
 
   pub exact_either : {A : Type 0} (s t : Shape) (L M : Lang T A) (a b : List T → Reading T A) →
       disjoint s.first t.first ≡ true → s.empty ≡ false → Exact kind s L a → Exact kind t M b →
@@ -207,34 +194,43 @@ module _ {T : Type 0} (kind : T → ℕ) where
     where
       sound : (u : List T) (x : A) (r : List T) → read_either kind s.first a b u ≡ took x r → (p : List T) × (u ≡ p ++ r) × Either L M p x
       sound u x r h = elim (cond_cases (starts kind s.first u) (a u) (b u) x r h) [
-          inl w ↦ (let v : _ = e.sound u x r w.1 in (v.0, v.1, inl v.2))
-        | inr w ↦ (let v : _ = f.sound u x r w.1 in (v.0, v.1, inr v.2)) ]
+        | inl w ↦ (let v : _ = e.sound u x r w.1 in (v.0, v.1, inl v.2))
+        | inr w ↦ (let v : _ = f.sound u x r w.1 in (v.0, v.1, inr v.2))
+      ]
+
       clear_one : (z : Bool) (r : List T) → starts kind (cond z (s.more ++ (t.more ++ s.first)) (s.more ++ t.more)) r ≡ false → starts kind s.more r ≡ false
       clear_one true r c = clear_left kind s.more _ r c
       clear_one false r c = clear_left kind s.more _ r c
+
       clear_two : (z : Bool) (r : List T) → starts kind (cond z (s.more ++ (t.more ++ s.first)) (s.more ++ t.more)) r ≡ false → starts kind t.more r ≡ false
       clear_two true r c = clear_left kind t.more s.first r (clear_right kind s.more _ r c)
       clear_two false r c = clear_right kind s.more _ r c
+
       clear_three : (z : Bool) (r : List T) → z ≡ true → starts kind (cond z (s.more ++ (t.more ++ s.first)) (s.more ++ t.more)) r ≡ false → starts kind s.first r ≡ false
       clear_three true r g c = clear_right kind t.more s.first r (clear_right kind s.more _ r c)
       clear_three false r g c = absurd (true_not_false _ g refl)
+
       at_first : (p r : List T) (x : A) → L p x → starts kind s.first (p ++ r) ≡ true
       at_first [] r x l = absurd (true_not_false _ (e.empty x l) n)
       at_first (h ∷ p) r x l = e.first h p x l
+
       at_second : (p r : List T) (x : A) → M p x → starts kind (shape_either s t).more r ≡ false → starts kind s.first (p ++ r) ≡ false
       at_second [] r x m c = clear_three t.empty r (f.empty x m) c
       at_second (h ∷ p) r x m c = apart s.first t.first (kind h) d (f.first h p x m)
+
       complete : (p r : List T) (x : A) → Either L M p x → starts kind (shape_either s t).more r ≡ false → read_either kind s.first a b (p ++ r) ≡ took x r
       complete p r x (inl l) c = read_either_first kind s.first a b (p ++ r) (at_first p r x l) ∙ e.complete p r x l (clear_one t.empty r c)
       complete p r x (inr m) c = read_either_second kind s.first a b (p ++ r) (at_second p r x m c) ∙ f.complete p r x m (clear_two t.empty r c)
+
       first : (h : T) (p : List T) (x : A) → Either L M (h ∷ p) x → has (s.first ++ t.first) (kind h) ≡ true
       first h p x (inl l) = has_left s.first t.first (kind h) (e.first h p x l)
       first h p x (inr m) = has_right s.first t.first (kind h) (f.first h p x m)
+
       empty : (x : A) → Either L M [] x → t.empty ≡ true
       empty x (inl l) = absurd (true_not_false _ (e.empty x l) n)
       empty x (inr m) = f.empty x m
 
-  disjoint_nil : (js : List ℕ) → disjoint js [] ≡ true
+  pub disjoint_nil : (js : List ℕ) → disjoint js [] ≡ true
   disjoint_nil [] = refl
   disjoint_nil (j ∷ js) = disjoint_nil js
 
@@ -243,8 +239,8 @@ module _ {T : Type 0} (kind : T → ℕ) where
   unfolding read_optional
   exact_optional {A} s L a n e =
       exact_as (shape_either s shape_empty) (Optional L) (Optional L) (read_either kind s.first (read_of Some a) (read_empty None)) (read_optional kind s.first a)
-        (exact_either s shape_empty (Of Some L) (Empty None) (read_of Some a) (read_empty None) (disjoint_nil s.first) n (exact_of Some s L a e) (exact_empty None))
-        (λ u x m. m) (λ u x m. m) same
+      (exact_either s shape_empty (Of Some L) (Empty None) (read_of Some a) (read_empty None) (disjoint_nil s.first) n (exact_of Some s L a e) (exact_empty None))
+      (λ u x m. m) (λ u x m. m) same
     where
       same : (u : List T) → read_optional kind s.first a u ≡ read_either kind s.first (read_of Some a) (read_empty None) u
       same u = refl
@@ -264,7 +260,7 @@ module _ {T : Type 0} (kind : T → ℕ) where
       exact_as s L (Within true L) a (read_within kind true s.first c a) e (λ u x m. (refl, m)) (λ u x m. m.1) (λ u. read_within_room kind true s.first c a u refl)
   exact_within {A} false s c L a e =
       exact_as s Nothing (Within false L) (read_nothing kind s.first c) (read_within kind false s.first c a) (exact_nothing s c)
-        (λ u x m. absurd m) (λ u x m. true_not_false _ refl (sym m.0)) same
+      (λ u x m. absurd m) (λ u x m. true_not_false _ refl (sym m.0)) same
     where
       same : (u : List T) → read_within kind false s.first c a u ≡ read_nothing kind s.first c u
       same u = refl

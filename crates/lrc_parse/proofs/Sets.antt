@@ -1,5 +1,5 @@
 -- What sets of kinds say of the next token.
-use Rattle.std.proofs.Common.{◌≡◌, ℕ, eqb, Bool, true, false, cond, List, [], ◌∷◌, ◌++◌, refl, sym, ap, ◌∙◌, subst}
+use Rattle.std.proofs.Common.{◌≡◌, ℕ, eqb, Bool, true, false, cond, List, [], ◌∷◌, ◌++◌, refl, sym, ap, ◌∙◌, ◌⊎◌, inl, inr}
 use Rattle.std.proofs.lemmas.Bool.{eqb-true}
 use Rattle.lrc_parse.specs.Kinds.{has, disjoint, starts}
 
@@ -45,9 +45,20 @@ apart (j ∷ js) ks k d h = go (has ks j) refl d (λ e. apart js ks k e h)
     here : (b : Bool) → eqb j k ≡ b → has ks j ≡ false → has js k ≡ false → cond b true (has js k) ≡ false
     here true e f ih = absurd (true_not_false _ h (ap (has ks) (sym (eqb-true j k e)) ∙ f))
     here false e f ih = ih
+
     go : (b : Bool) → has ks j ≡ b → cond b false (disjoint js ks) ≡ true → (disjoint js ks ≡ true → has js k ≡ false) → has (j ∷ js) k ≡ false
     go true e d ih = absurd (true_not_false _ d refl)
     go false e d ih = here (eqb j k) refl e (ih d)
+
+-- a kind of two sets together is in the one or the other
+pub has_cases : (js ks : List ℕ) (k : ℕ) → has (js ++ ks) k ≡ true → (has js k ≡ true) ⊎ (has ks k ≡ true)
+has_cases [] ks k h = inr h
+has_cases (j ∷ js) ks k h = go (eqb j k) h (has_cases js ks k)
+  where
+    go : (b : Bool) → cond b true (has (js ++ ks) k) ≡ true → (has (js ++ ks) k ≡ true → (has js k ≡ true) ⊎ (has ks k ≡ true)) →
+        (cond b true (has js k) ≡ true) ⊎ (has ks k ≡ true)
+    go true h f = inl refl
+    go false h f = f h
 
 module _ {T : Type 0} (kind : T → ℕ) where
   pub clear_left : (js ks : List ℕ) (u : List T) → starts kind (js ++ ks) u ≡ false → starts kind js u ≡ false

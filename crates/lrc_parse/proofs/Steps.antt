@@ -1,9 +1,8 @@
 -- The steps of each reading: what its parts read, and so what it reads.
-use Rattle.std.proofs.Common.{◌≡◌, ℕ, suc, ◌+◌, ◌<◌, ◌≤◌, eqb, ltb, Bool, true, false, cond, Option, Some, None, List, [], ◌∷◌, ◌++◌, length, refl, sym, ap, ◌∙◌, subst, arith, zero}
-use Rattle.std.proofs.lemmas.Bool.{eqb-true, eq-eqb, ne_eqb}
-use Rattle.lrc_parse.specs.Kinds.{has, starts}
-use Rattle.lrc_parse.specs.Reading.{Cause, expected, nested, limit, Reading, took, stops, on_took, token_value, read_empty, read_one, read_of, read_then, read_given, past_token, read_fixed, read_skip, read_ends, read_either, read_optional, read_nothing, read_within, read_turns, read_loop, read_push, read_many, read_push_most, read_most, read_others, read_separated, read_others_most, read_separated_most, read_joined, read_chain, read_nested}
-use Rattle.lrc_parse.proofs.Sets.{true_not_false}
+use Rattle.std.proofs.Common.{◌≡◌, ℕ, suc, Bool, true, false, cond, Option, Some, None, List, [], ◌∷◌, refl, ap, ◌∙◌, zero}
+use Rattle.std.proofs.lemmas.Bool.{eq-eqb, ne_eqb}
+use Rattle.lrc_parse.specs.Kinds.{starts}
+use Rattle.lrc_parse.specs.Reading.{Cause, expected, nested, Reading, took, stops, on_took, token_value, read_empty, read_one, read_of, read_then, read_given, past_token, read_fixed, read_skip, read_ends, read_either, read_optional, read_nothing, read_within, read_nested}
 
 module _ {T : Type 0} where
   pub read_empty_took : {A : Type 0} (a : A) (u : List T) → read_empty a u ≡ took a u

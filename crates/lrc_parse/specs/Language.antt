@@ -61,6 +61,10 @@ module _ {T : Type 0} where
   Chain {A} {X} f L M u y =
       (p q : List T) × (x : A) × (xs : List X) × (u ≡ p ++ q) × L p x × Many M q xs × (y ≡ fold_left f x xs)
 
+  -- what `f` makes of the items of a list that is not empty, from left to right
+  abbrev pub Folded : {A : Type 0} → (A → A → A) → Lang T (List A) → Lang T A
+  Folded {A} f L u y = (x : A) × (xs : List A) × L u (x ∷ xs) × (y ≡ fold_left f x xs)
+
   -- `n` turns, each from the state that the one before it left
   abbrev pub Turns : {S : Type 0} → (S → Lang T S) → ℕ → S → Lang T S
   Turns step zero s u z = (u ≡ []) × (z ≡ s)

@@ -2,3 +2,5 @@ pub mod Kinds
 pub mod Language
 pub mod Reading
 pub mod Exact
+pub mod Faults
+pub mod Sums

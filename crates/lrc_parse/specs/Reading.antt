@@ -1,5 +1,5 @@
 -- Readings: what is read at the head of some tokens, with the next token alone to choose by.
-use Rattle.std.specs.Prelude.{ℕ, zero, suc, ◌==◌, nat_lt, Bool, true, false, cond, Option, Some, None, List, [], ◌∷◌, ◌++◌, length}
+use Rattle.std.specs.Prelude.{ℕ, zero, suc, ◌+◌, ◌==◌, nat_lt, Bool, cond, Option, Some, None, List, [], ◌∷◌, ◌++◌, length}
 use Rattle.lrc_parse.specs.Kinds.{starts}
 
 -- why a reading stops
@@ -127,3 +127,17 @@ module _ {T : Type 0} (kind : T → ℕ) where
   unfoldable pub read_nested : {A : Type 0} → ((List T → Reading T A) → List T → Reading T A) → List ℕ → ℕ → List T → Reading T A
   read_nested body first zero u = body (read_nothing first nested) u
   read_nested body first (suc depth) u = body (read_nested body first depth) u
+
+  -- one item that `f` joins to the value so far, where the items so far are less than `n`
+  unfoldable pub read_join_most : {A : Type 0} → ℕ → List ℕ → Cause → (A → A → A) → (List T → Reading T A) → A × ℕ → List T → Reading T (A × ℕ)
+  read_join_most n first cause f item z u =
+      read_within (nat_lt z.1 n) first cause (read_of (λ y. (f z.0 y, z.1 + 1)) item) u
+
+  -- items that `f` joins to `x`, the value of `count` items, each with a token of the kind before it, at most `n` in all
+  unfoldable pub read_joined_most : {A : Type 0} → ℕ → ℕ → List ℕ → Cause → (A → A → A) → (List T → Reading T A) → ℕ → A → List T → Reading T A
+  read_joined_most {A} k n first cause f item count x u =
+      read_of (λ (z : A × ℕ). z.0) (read_loop (k ∷ []) (λ z. read_skip k (read_join_most n first cause f item z)) (x, count)) u
+
+  unfoldable pub read_folded_most : {A : Type 0} → ℕ → ℕ → List ℕ → Cause → (A → A → A) → (List T → Reading T A) → List T → Reading T A
+  read_folded_most k n first cause f item u =
+      on_took (item u) (λ x r. read_joined_most k n first cause f item 1 x r)

@@ -1,7 +1,5 @@
-use Rattle.std.proofs.Common.{◌≡◌, ◌≤◌, ◌+◌, length, drop, refl, subst, arith}
-use Rattle.lrc_lex.specs.declared.scan.Step.TheVariants.{Skip, Take}
-use Rattle.lrc_lex.specs.Tokens.{next, token_at}
-use Rattle.lrc_lex.proofs.TokensLemmas.{Reads, step_at, skip_some, take_some, reads_skip, reads_take, reads_end, reads_refuse, each_token}
+use Rattle.std.proofs.Common.{◌≤◌, ◌+◌, length, refl, arith}
+use Rattle.lrc_lex.proofs.TokensLemmas.{step_at, skip_some, take_some, reads_skip, reads_take, reads_end, reads_refuse, each_token}
 use Rattle.lrc_lex.proofs.tokens.Goals as goal
 use Rattle.lrc_lex.proofs.tokens.Goals.{In-Skip, In-Take}
 

@@ -1,0 +1,8 @@
+//! The program `lrc`.
+#![tactic(auto)]
+
+mod failure;
+mod text;
+mod words;
+
+fn main() {}

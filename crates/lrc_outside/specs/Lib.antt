@@ -1,0 +1,3 @@
+pub mod Count
+pub mod Known
+pub mod Memory
