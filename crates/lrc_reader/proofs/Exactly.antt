@@ -1,20 +1,10 @@
 -- Each reading reads exactly its part of the grammar.
-use Rattle.std.proofs.Common.{◌≡◌, ℕ, zero, suc, ℤ, ◌≤◌, Bool, true, false, cond, Option, Some, None, List, [], ◌∷◌, ◌++◌, refl, sym, ap, ◌∙◌, arith, lit≤, lit<}
-use Rattle.lrc_base.specs.declared.raw.RawKind.{RawKind}
-use Rattle.lrc_base.specs.declared.raw.RawAttr.{RawAttr}
-use Rattle.lrc_base.specs.declared.raw.RawSort.{RawSort}
-use Rattle.lrc_base.specs.declared.raw.RawKid.{RawKid}
-use Rattle.lrc_base.specs.declared.raw.RawExpr.{RawExpr}
-use Rattle.lrc_base.specs.declared.raw.RawItem.{RawItem}
-use Rattle.lrc_base.specs.declared.raw.RawProd.{RawProd}
+use Rattle.std.proofs.Common.{◌≡◌, ℕ, zero, suc, ℤ, true, false, Some, List, [], ◌∷◌, refl, sym, lit≤}
 use Rattle.lrc_base.specs.declared.raw.RawTerm.{RawTerm}
-use Rattle.lrc_base.specs.declared.raw.RawGrammar.{RawGrammar}
-use Rattle.lrc_base.specs.declared.job.RawScript.{RawScript}
-use Rattle.lrc_base.specs.declared.job.Job.{Job}
-use Rattle.lrc_parse.specs.Kinds.{has, disjoint, starts}
-use Rattle.lrc_parse.specs.Language.{Lang, Nothing, Empty, One, Given, Either, Optional, Within, Many, Most, Loop, Fixed, Separated}
-use Rattle.lrc_parse.specs.Reading.{Reading, Cause, took, stops, on_took, nested, read_empty, read_one, read_given, read_fixed, read_either, read_optional, read_nothing, read_within, read_loop, read_many, read_most, read_push, read_push_most, read_of, read_separated, read_separated_most}
-use Rattle.lrc_parse.specs.Exact.{Shape, Exact, shape_one, shape_empty, shape_then, shape_either, shape_skip, shape_many}
+use Rattle.lrc_parse.specs.Kinds.{has, disjoint}
+use Rattle.lrc_parse.specs.Language.{Lang, Empty, One, Given, Either, Optional, Many, Most, Loop, Separated}
+use Rattle.lrc_parse.specs.Reading.{took, on_took, nested, read_empty, read_given, read_either}
+use Rattle.lrc_parse.specs.Exact.{Shape, Exact, shape_one, shape_empty, shape_then, shape_either}
 use Rattle.lrc_parse.proofs.Parts.{exact_as, exact_empty, exact_one, exact_fixed, exact_given, exact_either, exact_optional, exact_nothing, exact_within}
 use Rattle.lrc_parse.proofs.Loops.{exact_loop}
 use Rattle.lrc_parse.proofs.Lists.{exact_many, exact_most, exact_separated, exact_separated_most}
@@ -22,7 +12,7 @@ use Rattle.lrc_reader.specs.declared.lexeme.Lexeme.{Lexeme}
 use Rattle.lrc_reader.specs.declared.lexeme.Lexeme.TheVariants as l
 use Rattle.lrc_reader.specs.declared.lexeme.Mark.{Mark}
 use Rattle.lrc_reader.specs.declared.lexeme.Mark.TheVariants as m
-use Rattle.lrc_reader.specs.Lexeme.{kind, number, word_kind, natural_kind, word_of, natural_of}
+use Rattle.lrc_reader.specs.Lexeme.{kind, number, word_of, natural_of}
 use Rattle.lrc_reader.specs.Grammar.{Name, IsWord, IsNumber, mark, IsAttr, IsSort, IsIntKind, IsNamedKind, IsKid, IsKids, IsReference, IsLiteral, IsAtom, Counted, sum_and, IsAddend, IsSum, IsEquation, IsItems, IsProd, IsLeaf, IsNode, IsTerm, one_of, IsStart, IsGrammar, IsSession, IsJob}
 use Rattle.lrc_reader.specs.Reading as reading
 use Rattle.lrc_reader.specs.Reading.{Reader, pass, words, naturals, values, only, read_word, read_number, read_attr, read_push_attr, read_attrs, read_more_attrs, read_sort, read_int_kind, read_named_kind, read_kind, read_kid, read_push_kid, read_some_kids, read_more_kids, read_any_kids, read_kids, read_dot_word, read_attribute_of, read_reference, read_literal, read_atom, read_joined_atom, read_addend, read_addends, read_sum, read_equation, read_equations, read_items, read_prod, read_prods, read_leaf, read_push_term, read_some_terms, read_more_terms, read_any_terms, read_node, read_term_over, read_term, read_one_number, read_start, read_grammar, read_session, read_all}

@@ -1,8 +1,8 @@
 -- Readings that look at the next lexeme, by what stands at place 0.
-use Rattle.std.proofs.Common.{◌≡◌, ℕ, ◌==◌, Bool, true, false, cond, Option, Some, None, List, [], ◌∷◌, drop, slice_get, refl, sym, ap, ◌∙◌, arith, rules}
+use Rattle.std.proofs.Common.{◌≡◌, ℕ, ◌==◌, Bool, true, false, cond, Option, Some, None, List, [], ◌∷◌, drop, slice_get, refl, sym, ap, ◌∙◌, arith}
 use Rattle.std.proofs.lemmas.Bool.Decides.{nat_tests}
 use Rattle.lrc_parse.specs.Kinds.{has, starts}
-use Rattle.lrc_parse.specs.Reading.{Reading, took, stops, read_one, read_fixed, token_value}
+use Rattle.lrc_parse.specs.Reading.{took, read_one, read_fixed, token_value}
 use Rattle.lrc_reader.specs.declared.lexeme.Lexeme.{Lexeme}
 use Rattle.lrc_reader.specs.Lexeme.{kind}
 use Rattle.lrc_reader.specs.Gives.{Stops}

@@ -1,28 +1,27 @@
 -- The turns of each loop: a turn takes a lexeme, so that the loop ends.
-use Rattle.std.proofs.Common.{◌≡◌, ℕ, ◌<◌, ◌≤◌, Bool, true, false, cond, ltb, List, [], ◌∷◌, ◌++◌, length, refl, sym, ap, ◌∙◌, arith}
+use Rattle.std.proofs.Common.{◌≡◌, ℕ, ◌<◌, true, false, ltb, List, [], ◌∷◌, ◌++◌, length, refl}
 use Rattle.lrc_base.specs.declared.raw.RawAttr.{RawAttr}
 use Rattle.lrc_base.specs.declared.raw.RawKid.{RawKid}
 use Rattle.lrc_base.specs.declared.raw.RawItem.{RawItem}
 use Rattle.lrc_base.specs.declared.raw.RawProd.{RawProd}
 use Rattle.lrc_base.specs.declared.raw.RawTerm.{RawTerm}
 use Rattle.lrc_parse.specs.Kinds.{starts}
-use Rattle.lrc_parse.specs.Language.{Lang, Empty, Given, Within}
-use Rattle.lrc_parse.specs.Reading.{Reading, Cause, took, stops, on_took, read_of, read_push, read_fixed, read_within, read_many, read_most, read_push_most, read_loop}
-use Rattle.lrc_parse.specs.Exact.{Shape, Exact}
-use Rattle.lrc_parse.proofs.Parts.{exact_fixed, exact_within}
+use Rattle.lrc_parse.specs.Language.{Empty, Given, Within}
+use Rattle.lrc_parse.specs.Reading.{took, read_of, read_push, read_many, read_most, read_push_most}
+use Rattle.lrc_parse.specs.Exact.{Exact}
+use Rattle.lrc_parse.proofs.Parts.{exact_within}
 use Rattle.lrc_parse.proofs.Loops.{read_loop_end}
 use Rattle.lrc_parse.proofs.ListSteps.{read_many_end, read_most_end, read_others_end, read_others_most_end}
 use Rattle.lrc_parse.proofs.Whole.{shorter}
 use Rattle.lrc_reader.specs.declared.lexeme.Lexeme.{Lexeme}
-use Rattle.lrc_reader.specs.declared.lexeme.Mark.{Mark}
 use Rattle.lrc_reader.specs.declared.lexeme.Mark.TheVariants as m
 use Rattle.lrc_reader.specs.Lexeme.{kind, number}
-use Rattle.lrc_reader.specs.Grammar.{mark, IsAttr, IsKid, IsAddend, Counted, IsEquation, IsProd, IsTerm}
+use Rattle.lrc_reader.specs.Grammar.{mark, IsAttr, IsKid, Counted, IsEquation, IsProd, IsTerm}
 use Rattle.lrc_reader.specs.Gives.{Stops}
 use Rattle.lrc_reader.specs.Reading as reading
 use Rattle.lrc_reader.specs.Reading.{Reader, pass, words, values, only, read_attr, read_push_attr, read_another_attr, read_more_attrs, read_kid, read_push_kid, read_another_kid, read_more_kids, read_addend, read_addends, read_equation, read_push_equation, read_equations, read_prod, read_another_prod, read_prods, read_term, read_push_term, read_another_term, read_more_terms}
 use Rattle.lrc_reader.proofs.Turns.{loop_turn, loop_stops, others_turn, others_stops, others_most_turn, others_most_stops}
-use Rattle.lrc_reader.proofs.Exactly.{then, end, begins, atom_shape, exact_mark, exact_attr, exact_kid, exact_addend, exact_equation, exact_prod, exact_term}
+use Rattle.lrc_reader.proofs.Exactly.{then, end, begins, exact_mark, exact_attr, exact_kid, exact_addend, exact_equation, exact_prod, exact_term}
 
 -- ---- attributes
 

@@ -1,8 +1,8 @@
 -- The turns of a loop, where the step first goes past a mark.
-use Rattle.std.proofs.Common.{◌≡◌, ℕ, ◌==◌, ◌<◌, Bool, true, false, cond, ltb, List, [], ◌∷◌, ◌++◌, length, refl, sym, ap, ◌∙◌, arith}
+use Rattle.std.proofs.Common.{◌≡◌, ℕ, ◌==◌, ◌<◌, Bool, true, false, cond, ltb, List, [], ◌∷◌, ◌++◌, length, refl, ◌∙◌}
 use Rattle.lrc_parse.specs.Kinds.{starts}
-use Rattle.lrc_parse.specs.Reading.{Reading, Cause, expected, took, stops, on_took, past_token, read_of, read_fixed, read_skip, read_within, read_loop, read_push, read_push_most, read_others, read_others_most, read_many, read_most, read_separated, read_separated_most}
-use Rattle.lrc_parse.proofs.Loops.{read_loop_end, read_loop_stops, read_loop_more}
+use Rattle.lrc_parse.specs.Reading.{Reading, Cause, expected, took, stops, on_took, read_of, read_fixed, read_skip, read_within, read_loop, read_push, read_push_most, read_others, read_others_most, read_separated, read_separated_most}
+use Rattle.lrc_parse.proofs.Loops.{read_loop_stops, read_loop_more}
 use Rattle.lrc_reader.specs.declared.lexeme.Lexeme.{Lexeme}
 use Rattle.lrc_reader.specs.Lexeme.{kind}
 use Rattle.lrc_reader.specs.Gives.{Stops}

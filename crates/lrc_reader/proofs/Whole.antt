@@ -1,8 +1,8 @@
 -- What reading all lexemes says of a job.
-use Rattle.std.proofs.Common.{◌≡◌, ℕ, ◌≤◌, List, [], ◌∷◌, length, refl, sym, ap, ◌∙◌, subst, Bool, true, false, Result, Ok, Err, ◌≢◌, ◌↔◌, IsTrue, IfOk, IsErrOf, rules}
+use Rattle.std.proofs.Common.{◌≡◌, ℕ, ◌≤◌, List, [], ◌∷◌, length, refl, sym, ap, ◌∙◌, subst, Bool, true, false, Result, Ok, Err, ◌≢◌, ◌↔◌, IsTrue, IfOk}
 use Rattle.lrc_base.specs.declared.job.Job.{Job}
 use Rattle.lrc_lex.proofs.TokensLemmas.{one_list}
-use Rattle.lrc_parse.specs.Reading.{Reading, Cause, took, stops}
+use Rattle.lrc_parse.specs.Reading.{Reading, took, stops}
 use Rattle.lrc_parse.proofs.Whole.{read_whole, one_value, stops_none, rest_none}
 use Rattle.lrc_lex.specs.declared.Token.{Token}
 use Rattle.lrc_lex.specs.Tokens.{Tokens}
@@ -12,9 +12,9 @@ use Rattle.lrc_reader.specs.declared.fault.JobFault.{JobFault}
 use Rattle.lrc_reader.specs.declared.fault.JobFault.TheVariants.{Memory, NotBuilt}
 use Rattle.lrc_reader.specs.Gives.{Stops}
 use Rattle.lrc_reader.specs.Grammar.{IsJob}
-use Rattle.lrc_reader.specs.Reading.{read_all, only}
+use Rattle.lrc_reader.specs.Reading.{read_all}
 use Rattle.lrc_reader.specs.Denotes.{Denotes}
-use Rattle.lrc_reader.proofs.Exactly.{begins, exact_job}
+use Rattle.lrc_reader.proofs.Exactly.{exact_job}
 
 -- what is read to its end is derived
 pub job_read : (u : List Lexeme) (job : Job) → read_all u ≡ took job [] → IsJob u job

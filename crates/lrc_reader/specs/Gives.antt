@@ -1,6 +1,6 @@
 -- What a function that reads answers: what a reading gives, unless memory ran out.
 use Rattle.std.specs.Prelude.{◌≡◌, ◌≢◌, List, Result, Ok, Err}
-use Rattle.lrc_parse.specs.Reading.{Reading, Cause, took, stops}
+use Rattle.lrc_parse.specs.Reading.{Reading, took, stops}
 use Rattle.lrc_reader.specs.declared.lexeme.Lexeme.{Lexeme}
 use Rattle.lrc_reader.specs.declared.fault.JobFault.{JobFault}
 use Rattle.lrc_reader.specs.declared.fault.JobFault.TheVariants.{Memory}

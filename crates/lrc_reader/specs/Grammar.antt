@@ -1,5 +1,5 @@
 -- The grammar of a job: which lexemes stand for which job.
-use Rattle.std.specs.Prelude.{ℕ, zero, suc, ℤ, ◌+◌, ◌==◌, nat_le, pos, true, false, if◌then◌else◌, Option, Some, None, List, [], ◌∷◌}
+use Rattle.std.specs.Prelude.{ℕ, zero, suc, ℤ, ◌+◌, nat_le, pos, false, if◌then◌else◌, Option, Some, None, List, [], ◌∷◌}
 use Rattle.std.specs.Ordering.{int_eq}
 use Rattle.lrc_base.specs.declared.expr.Op.TheVariants as op
 use Rattle.lrc_base.specs.declared.raw.RawKind.{RawKind}

@@ -1,5 +1,5 @@
 -- What the reader sees of a token.
-use Rattle.std.specs.Prelude.{ℕ, ℤ, pos, List, [], ◌∷◌, map, slice_range, Option, Some, None, if◌then◌else◌, ◌==◌, codes}
+use Rattle.std.specs.Prelude.{ℕ, ℤ, pos, List, [], ◌∷◌, map, slice_range, Option, Some, None, if◌then◌else◌, codes}
 use Rattle.std.specs.Str.{bytes_eq}
 use Rattle.lrc_lex.specs.declared.Token.{Token}
 use Rattle.lrc_lex.specs.declared.TokenClass.{TokenClass}

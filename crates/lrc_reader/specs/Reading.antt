@@ -15,7 +15,7 @@ use Rattle.lrc_base.specs.declared.raw.RawTerm.TheVariants as t
 use Rattle.lrc_base.specs.declared.raw.RawGrammar.{RawGrammar}
 use Rattle.lrc_base.specs.declared.job.RawScript.{RawScript}
 use Rattle.lrc_base.specs.declared.job.Job.{Job}
-use Rattle.lrc_parse.specs.Reading.{Reading, Cause, nested, limit, took, on_took, read_one, read_fixed, read_either, read_optional, read_nothing, read_within, read_loop, read_many, read_most, read_others, read_separated, read_others_most, read_separated_most}
+use Rattle.lrc_parse.specs.Reading.{Reading, Cause, nested, limit, took, on_took, read_one, read_fixed, read_either, read_optional, read_nothing, read_within, read_loop, read_many, read_most, read_others, read_others_most}
 use Rattle.lrc_reader.specs.declared.lexeme.Lexeme.{Lexeme}
 use Rattle.lrc_reader.specs.declared.lexeme.Mark.{Mark}
 use Rattle.lrc_reader.specs.declared.lexeme.Mark.TheVariants as m
