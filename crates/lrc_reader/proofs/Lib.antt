@@ -3,3 +3,4 @@ pub mod Turns
 pub mod Exactly
 pub mod Shorter
 pub mod Whole
+pub mod Limits

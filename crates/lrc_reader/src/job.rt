@@ -5,6 +5,7 @@ ghost use Rattle.lrc_base.specs.declared.job.Job.{Job};
 ghost use Rattle.lrc_lex.specs.declared.Token.{Token};
 ghost use Rattle.lrc_lex.specs.Longest.{IsTokenOf};
 ghost use Rattle.lrc_lex.specs.Tokens.{Tokens};
+ghost use Rattle.lrc_meaning.specs.Limits.{KeepsLimits};
 ghost use Rattle.lrc_reader.specs.Denotes.{Denotes};
 ghost use Rattle.lrc_reader.specs.Gives.{Gives};
 ghost use Rattle.lrc_reader.specs.Grammar.{IsJob};
@@ -91,6 +92,7 @@ fn tokens_of(alloc: Global, bytes: &[u8]) -> Result<List<Token>, JobFault>
 /// `Memory`.
 pub fn read_job(alloc: Global, bytes: &[u8]) -> Result<Job, JobFault>
     ensures ok { IfOk result (λ job. Denotes bytes.now job) }
+    ensures limits { IfOk result (λ job. KeepsLimits job.grammar) }
     ensures not_built { IsErrOf result JobFault.NotBuilt → (job : Job) → Denotes bytes.now job → ⊥ }
 {
     if bytes.len() > TEXT_LIMIT {
