@@ -16,3 +16,4 @@ pub mod Deep
 pub mod Verdict
 pub mod SumSteps
 pub mod SumProofs
+pub mod SumVerdict

@@ -1,7 +1,7 @@
 -- The steps of the example's reading.
-use Rattle.std.proofs.Common.{◌≡◌, ℕ, zero, suc, ◌+◌, ◌-◌, ◌<◌, Bool, true, false, Some, None, List, [], ◌∷◌, length, refl, sym, ap, ◌∙◌, arith, subst, sub-one}
+use Rattle.std.proofs.Common.{◌≡◌, ℕ, zero, suc, ◌-◌, ◌<◌, true, false, List, [], ◌∷◌, length, refl, ap, ◌∙◌, arith}
 use Rattle.lrc_parse.specs.Kinds.{starts}
-use Rattle.lrc_parse.specs.Reading.{Cause, expected, nested, Reading, took, stops, read_one, read_skip, read_ends, read_nothing, read_nested}
+use Rattle.lrc_parse.specs.Reading.{Cause, expected, nested, Reading, took, stops, read_one, read_skip, read_ends, read_nested}
 use Rattle.lrc_parse.specs.declared.sums.Sign.{Sign}
 use Rattle.lrc_parse.specs.declared.sums.Sign.TheVariants.{Number, Plus, Open, Close}
 use Rattle.lrc_parse.specs.Sums.{kind_of, number_of, added, reads_atom, reads_sum_of, reads_sum, reads_inside, reads_atom_at, reads_brackets, reads_rest}

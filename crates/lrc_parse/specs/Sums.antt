@@ -1,9 +1,10 @@
 -- An example: sums of numbers by `+`, left to right, with sums in brackets as numbers; they count modulo 256.
-use Rattle.std.specs.Prelude.{◌≡◌, ℕ, zero, suc, ◌+◌, ◌%◌, ◌≤◌, Bool, true, false, Option, Some, None, List, [], ◌∷◌, Result, Ok, Err}
+use Rattle.std.specs.Prelude.{◌≡◌, ℕ, zero, suc, ◌+◌, ◌%◌, ◌≤◌, false, Option, Some, None, List, [], ◌∷◌, ◌++◌, Result, Ok, Err}
 use Rattle.std.specs.Borrow.{Bor}
 use Rattle.lrc_parse.specs.Language.{Lang, One, Either, Chain, Nested, Skip, Ends}
 use Rattle.lrc_parse.specs.Reading.{Cause, expected, nested, Reading, took, stops, read_nothing, read_joined, read_one, read_either, read_chain, read_skip, read_ends, read_nested}
 use Rattle.lrc_parse.specs.Exact.{Shape}
+use Rattle.lrc_parse.specs.Faults.{Caused}
 use Rattle.lrc_parse.specs.declared.sums.Sign.{Sign}
 use Rattle.lrc_parse.specs.declared.sums.Sign.TheVariants.{Number, Plus, Open, Close}
 use Rattle.lrc_parse.specs.declared.sum_reader.Why.{Why}
@@ -84,3 +85,7 @@ cause_of TooDeep = nested
 abbrev pub Gives : Reading Sign ℕ → Result (ℕ × Bor (List Sign)) Stop → Type 0
 Gives o (Ok p) = o ≡ took p.0 p.1.now
 Gives o (Err s) = o ≡ stops (cause_of s.why) s.left.now
+
+-- the first fault of signs that are no sum of this depth: its cause, and the signs from there on
+abbrev pub IsFault : ℕ → Cause → List Sign → List Sign → Type 0
+IsFault depth c u r = (p : List Sign) × (u ≡ p ++ r) × Caused IsSum depth c p r

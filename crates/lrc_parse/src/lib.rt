@@ -22,5 +22,5 @@ pub use grammar::{Grammar, LimitedGrammar, Token};
 pub use laws::{left_over, one_value, stopped, takes_a_token, whole_text};
 pub use repeats::{chain, folded_most, repeated, repeated_most, separated, separated_most};
 pub use stops::{left_place, stop_place, whole_text_within};
+pub use sum_reader::{Stop, Why, read_sum, value_of_sum};
 pub use sums::{Sign, Sums, sum_read_exactly};
-pub use sum_reader::{Stop, Why, read_sum};

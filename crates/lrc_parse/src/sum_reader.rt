@@ -1,9 +1,9 @@
-use crate::sums::Sign;
-
-ghost use Rattle.std.specs.Prelude.{◌≡◌, [], ◌∷◌, false, MatchOption};
+ghost use Rattle.std.specs.Prelude.{◌≡◌, [], ◌∷◌, false, MatchOption, IfOk, IfErr};
 ghost use Rattle.lrc_parse.specs.Kinds.{starts};
 ghost use Rattle.lrc_parse.specs.Reading.{stops};
-ghost use Rattle.lrc_parse.specs.Sums.{Gives, cause_of, kind_of, reads_atom_at, reads_brackets, reads_inside, reads_sum};
+ghost use Rattle.lrc_parse.specs.Sums.{Gives, IsFault, IsSum, cause_of, kind_of, reads_atom_at, reads_brackets, reads_inside, reads_sum};
+
+use crate::sums::Sign;
 
 /// Why the reading of a sum stops.
 #[derive(Debug, Clone, Copy)]
@@ -19,6 +19,28 @@ pub enum Why {
 pub struct Stop<'a> {
     pub why: Why,
     pub left: &'a [Sign],
+}
+
+/// The value modulo 256 of signs that are a sum whose brackets stand at most `depth` deep within one
+/// another.
+///
+/// # Errors
+/// The first sign with which no sum begins, or the end where none has ended; or the first sign with
+/// which only sums begin whose brackets stand deeper.
+#[tactic(auto, using(crate::proofs::SumVerdict::sum_verdict))]
+pub fn value_of_sum(signs: &[Sign], depth: u32) -> Result<u8, Stop<'_>>
+    ensures value { IfOk result (λ x. IsSum depth signs.now x) }
+    ensures fault { IfErr result (λ s. IsFault depth (cause_of s.why) signs.now s.left.now) }
+{
+    let (value, left) = read_sum(signs, depth)?;
+    if left.is_empty() {
+        Ok(value)
+    } else {
+        Err(Stop {
+            why: Why::Expected,
+            left,
+        })
+    }
 }
 
 /// Reads a sum whose brackets stand at most `depth` deep within one another: its value modulo 256
@@ -48,7 +70,10 @@ fn read_atom(signs: &[Sign], depth: u32) -> Result<(u8, &[Sign]), Stop<'_>>
     match next_sign(signs) {
         Some((Sign::Number(number), rest)) => Ok((number, rest)),
         Some((Sign::Open, rest)) => read_brackets(rest, depth),
-        _ => Err(Stop { why: Why::Expected, left: signs }),
+        _ => Err(Stop {
+            why: Why::Expected,
+            left: signs,
+        }),
     }
 }
 
@@ -64,7 +89,10 @@ fn read_brackets(signs: &[Sign], depth: u32) -> Result<(u8, &[Sign]), Stop<'_>>
     let (value, left) = read_sum(signs, depth - 1)?;
     match next_sign(left) {
         Some((Sign::Close, behind)) => Ok((value, behind)),
-        _ => Err(Stop { why: Why::Expected, left }),
+        _ => Err(Stop {
+            why: Why::Expected,
+            left,
+        }),
     }
 }
 
@@ -78,9 +106,7 @@ fn next_sign(signs: &[Sign]) -> Option<(Sign, &[Sign])>
 
 /// The signs behind a plus, if one is first.
 fn behind_plus(signs: &[Sign]) -> Option<&[Sign]>
-    ensures {
-        MatchOption result (starts kind_of (1 ∷ []) signs.now ≡ false) (λ behind. signs.now ≡ Sign.Plus ∷ behind.now)
-    }
+    ensures { MatchOption result (starts kind_of (1 ∷ []) signs.now ≡ false) (λ behind. signs.now ≡ Sign.Plus ∷ behind.now) }
 {
     match next_sign(signs) {
         Some((Sign::Plus, behind)) => Some(behind),
@@ -98,4 +124,26 @@ fn no_room(signs: &[Sign]) -> Stop<'_>
         _ => Why::Expected,
     };
     Stop { why, left: signs }
+}
+
+#[cfg(test)]
+mod tests {
+    use super::*;
+    use std::test::Fail;
+
+    #[test]
+    fn brackets_count_as_numbers(rt: HostRuntime) -> Result<(), Fail> {
+        let signs = [
+            Sign::Open,
+            Sign::Number(250),
+            Sign::Plus,
+            Sign::Number(7),
+            Sign::Close,
+            Sign::Plus,
+            Sign::Number(2),
+        ];
+        assert_eq!(rt; value_of_sum(&signs, 1).ok(), Some(3));
+        assert_eq!(rt; value_of_sum(&signs, 0).ok(), None);
+        Ok(())
+    }
 }

@@ -1,4 +1,4 @@
-use Rattle.std.proofs.Common.{◌≡◌, ℕ, ◌+◌, ◌*◌, length}
+use Rattle.std.proofs.Common.{◌≡◌, ◌+◌, ◌*◌, length}
 use Rattle.lrc_parse.specs.Sums.{reads_rest, reads_sum}
 use Rattle.lrc_parse.proofs.sum_reader.+sum.Given as goal
 
