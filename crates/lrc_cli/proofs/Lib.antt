@@ -1,1 +1,5 @@
 pub mod TextLemmas
+pub mod LineLemmas
+pub mod StatusLemmas
+pub mod FaultLemmas
+pub mod RunLemmas

@@ -1,5 +1,5 @@
 -- The statuses and the lines of faults.
-use Rattle.std.specs.Prelude.{ℕ, List, ◌++◌, [], ◌∷◌, codes}
+use Rattle.std.specs.Prelude.{◌≡◌, ◌⊎◌, ℕ, List, ◌++◌, [], ◌∷◌, codes}
 use Rattle.lrc_cli.specs.declared.failure.Failure.{Failure}
 use Rattle.lrc_cli.specs.declared.failure.Failure.TheVariants.{Usage, Read, Write, NotBuilt, Memory}
 
@@ -22,3 +22,7 @@ words_of Memory = codes "lrc: no memory"
 -- the line of a fault
 abbrev pub line_of : Failure → List ℕ
 line_of f = words_of f ++ 10 ∷ []
+
+-- the statuses that there are
+abbrev pub IsStatus : ℕ → Type 0
+IsStatus n = (n ≡ 0) ⊎ ((f : Failure) × (n ≡ status_of f))

@@ -1,34 +1,47 @@
 -- What a run is: from the bytes of a job to the text of its replies.
-use Rattle.std.specs.Prelude.{◌≡◌, ℕ, ◌≤◌, IsTrue, List, [], ◌∷◌, Option, Some, None, ⊤}
+use Rattle.std.specs.Prelude.{◌≡◌, ℕ, ◌≤◌, IsTrue, List, [], ◌∷◌, Option, Some}
 use Rattle.lrc_base.specs.declared.grammar.Kind.TheVariants as k
-use Rattle.lrc_base.specs.declared.job.RawScript.{RawScript}
 use Rattle.lrc_base.specs.declared.job.Job.{Job}
+use Rattle.lrc_base.specs.declared.job.RawScript.{RawScript}
+use Rattle.lrc_base.specs.declared.raw.RawGrammar.{RawGrammar}
+use Rattle.lrc_base.specs.declared.raw.RawTerm.{RawTerm}
 use Rattle.lrc_meaning.specs.Tree.{Tree, fits, tree_height}
 use Rattle.lrc_meaning.specs.Grammar.{Grammar, is_well_formed}
 use Rattle.lrc_meaning.specs.Plain.{is_plain}
 use Rattle.lrc_meaning.specs.Naming.{named_grammar, named_tree}
 use Rattle.lrc_meaning.specs.Editing.{Reply, ReplyRun, never_full}
 use Rattle.lrc_meaning.specs.Text.{unparsed, run_text}
-use Rattle.lrc_cli.specs.Denotes.{Denotes}
+use Rattle.lrc_reader.specs.Denotes.{Denotes}
 
 -- the most nodes on the longest path of a tree that has attributes
 abbrev pub depth_limit : ℕ
 depth_limit = 500
 
--- The bytes are a job that is built: they denote a job with one session, its grammar is well formed and plain, and
--- its tree is of the start sort and within the depth limit.
+-- the job has another number of sessions than one, or its session has edits
+abbrev pub HasNoScript : Job → Type 0
+HasNoScript job = (s : RawScript) → job.sessions ≡ s ∷ [] → s.edits ≡ [] → ⊥
+
+-- the grammar that is written, which is well formed and plain
+pub record IsGrammarOf (raw : RawGrammar) (grammar : Grammar) : Type 0 where
+  pub named : named_grammar raw ≡ Some grammar
+  pub well_formed : IsTrue (is_well_formed grammar)
+  pub plain : IsTrue (is_plain grammar)
+
+-- the tree that is written, which is of the start sort and within the depth limit
+pub record IsTreeOf (grammar : Grammar) (raw : RawTerm) (opening : Tree) : Type 0 where
+  pub named : named_tree grammar.prods raw ≡ Some opening
+  pub fitting : IsTrue (fits grammar.prods opening (k.Sort grammar.start))
+  pub within : tree_height opening ≤ depth_limit
+
+-- The bytes are a job that is built, of this grammar and with one session, on this tree.
 pub record IsBuilt (bytes : List ℕ) (grammar : Grammar) (opening : Tree) : Type 0 where
   pub job : Job
   pub script : RawScript
   pub denotes : Denotes bytes job
   pub one_session : job.sessions ≡ script ∷ []
   pub no_edits : script.edits ≡ []
-  pub grammar_named : named_grammar job.grammar ≡ Some grammar
-  pub well_formed : IsTrue (is_well_formed grammar)
-  pub plain : IsTrue (is_plain grammar)
-  pub tree_named : named_tree grammar.prods script.tree ≡ Some opening
-  pub tree_fits : IsTrue (fits grammar.prods opening (k.Sort grammar.start))
-  pub within : tree_height opening ≤ depth_limit
+  pub of_grammar : IsGrammarOf job.grammar grammar
+  pub of_tree : IsTreeOf grammar script.tree opening
 
 -- The text is that of a run of the job: each reply is the root's synthesised attributes in an attribution of the
 -- session's tree, or the refusal that the editing rules name, and then the final line of the last tree.

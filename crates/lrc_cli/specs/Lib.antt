@@ -1,3 +1,7 @@
 pub mod Words
 pub mod Faults
 pub mod Opening
+pub mod Line
+pub mod Headline
+pub mod Status
+pub mod Taken

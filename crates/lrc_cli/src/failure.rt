@@ -1,6 +1,9 @@
 ghost use Rattle.std.specs.Prelude.{◌≡◌};
 ghost use Rattle.lrc_cli.specs.Faults.{status_of, words_of};
 
+use lrc_base::Memory;
+use lrc_outside::{Failed, TakeFault};
+
 /// Why the program did not do its work.
 #[derive(Clone, Copy, Debug, PartialEq, Eq)]
 pub enum Failure {
@@ -46,3 +49,39 @@ impl Failure {
 
 const USAGE: &[u8] =
     b"usage: lrc run|solo|check|plan|gen [--rows N] [--memo N] [--depth N] [--seed N] [--nodes N] [--sessions N]";
+
+impl From<TakeFault> for Failure {
+    ghost use Rattle.std.specs.Prelude.{◌≡◌};
+    ghost use Rattle.lrc_cli.specs.Taken.{failure_of};
+
+    ghost from_gives = { λ fault failure. failure ≡ failure_of fault };
+
+    fn from(fault: TakeFault) -> Failure {
+        match fault {
+            TakeFault::Failed => Failure::Read,
+            TakeFault::Memory => Failure::Memory,
+        }
+    }
+}
+
+impl From<Failed> for Failure {
+    ghost use Rattle.std.specs.Prelude.{◌≡◌};
+    ghost use Rattle.lrc_cli.specs.declared.failure.Failure.{Failure};
+
+    ghost from_gives = { λ _ failure. failure ≡ Failure.Write };
+
+    fn from(_failed: Failed) -> Failure {
+        Failure::Write
+    }
+}
+
+impl From<Memory> for Failure {
+    ghost use Rattle.std.specs.Prelude.{◌≡◌};
+    ghost use Rattle.lrc_cli.specs.declared.failure.Failure.{Failure};
+
+    ghost from_gives = { λ _ failure. failure ≡ Failure.Memory };
+
+    fn from(_memory: Memory) -> Failure {
+        Failure::Memory
+    }
+}

@@ -9,9 +9,10 @@ compared : (ws : List (String Global)) (w : String Global) (b : Bool) → length
     (IsTrue b → IsRunCommand ws) × (IsRunCommand ws → IsTrue b)
 compared ws w b two is same =
     let here : slice_get ws 1 ≡ Some w = slice_get-get_or ws 1 w (omega arith) ∙ ap Some (sym is) in
-    let d = bytes_eq-Decides (string_bytes w) (codes "run") in
-    (λ h. record { two = two; second = w; is_second = here; is_run = d.0 (sym same ∙ h) },
-    λ h. let e : w ≡ h.second = (let t = h.is_second in cc) in same ∙ d.1 (ap string_bytes e ∙ h.is_run))
+    let d = bytes_eq-Decides (string_bytes w) (codes "run") in (
+      λ h. record { two = two; second = w; is_second = here; is_run = d.0 (sym same ∙ h) },
+      λ h. let e : w ≡ h.second = (let t = h.is_second in cc) in same ∙ d.1 (ap string_bytes e ∙ h.is_run),
+    )
 
 pub returns-then-words-eq2 : goal.returns-then-words-eq2
 returns-then-words-eq2 c =
