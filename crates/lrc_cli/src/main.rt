@@ -3,6 +3,8 @@
 
 mod failure;
 mod run;
+#[cfg(test)]
+mod tests;
 mod text;
 mod top;
 mod words;
