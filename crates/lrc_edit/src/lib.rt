@@ -6,3 +6,6 @@ mod replacing;
 
 pub use places::kind_of;
 pub use replacing::{ReplaceFault, replaced};
+
+#[cfg(test)]
+mod tests;
