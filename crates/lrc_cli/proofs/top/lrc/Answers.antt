@@ -1,0 +1,21 @@
+use Rattle.std.proofs.Common.{inl, inr, refl, sym, ◌∙◌, ap, subst, Err, Result, ◌≡◌}
+use Rattle.lrc_cli.specs.Faults.{line_of}
+use Rattle.lrc_cli.specs.declared.failure.Failure.{Failure}
+use Rattle.lrc_cli.specs.declared.failure.Failure.TheVariants.{Write}
+use Rattle.lrc_cli.specs.Line.{GainsLine}
+use Rattle.lrc_cli.proofs.FaultLemmas.{fault_of}
+use Rattle.lrc_cli.proofs.top.lrc.Goals as goal
+
+pub returns-in-Ok-clause-statuses : goal.returns-in-Ok-clause-statuses
+returns-in-Ok-clause-statuses g c = inl refl
+
+pub returns-in-Err-clause-statuses : goal.returns-in-Err-clause-statuses
+returns-in-Err-clause-statuses g c = inr (c.in-Err.failure, c.status.ensures)
+
+pub returns-in-Err-clause-part : goal.returns-in-Err-clause-part
+returns-in-Err-clause-part g c = λ e. c.in-Err.ensures.part (let same = fault_of c.in-Err.failure Write (sym c.status.ensures ∙ e) in cc)
+
+pub returns-in-Err-clause-line : goal.returns-in-Err-clause-line
+returns-in-Err-clause-line g c = λ f e.
+    let same : c.in-Err.failure ≡ f = fault_of c.in-Err.failure f (sym c.status.ensures ∙ e) in
+    subst (λ (h : Failure). GainsLine (g.E.Sink.held c.args.err.now) (g.E.Sink.held c.put_line.new.err) (g.E.Sink.faults c.args.err.now) (g.E.Sink.faults c.put_line.new.err) (line_of h)) same c.put_line.ensures.line

@@ -1,0 +1,4 @@
+pub mod FittingLemmas
+pub mod KindLemmas
+pub mod NameLemmas
+pub mod ListLemmas

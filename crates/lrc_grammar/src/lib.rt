@@ -1,0 +1,19 @@
+//! Well-formed grammars, and terms that fit their productions.
+#![tactic(auto)]
+
+mod checks;
+mod fitting;
+mod grammar;
+mod kinds;
+mod names;
+mod occurrences;
+mod plain;
+mod production_checks;
+
+pub use fitting::{fits, is_within, same_kind};
+pub use grammar::Grammar;
+pub use kinds::{expression_kind, is_sort};
+pub use occurrences::{Occurrence, attrs_of, attrs_of_sort, occurrences_of};
+
+#[cfg(test)]
+mod tests;

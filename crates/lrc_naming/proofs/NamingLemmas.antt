@@ -1,0 +1,70 @@
+-- The equations of `named_expr` and `named_tree`, one for each variant.
+use Rattle.std.proofs.Common.{◌≡◌, ℕ, ℤ, Bool, List, map, Option, Some, None, sym, ap, ◌∙◌}
+use Rattle.std.specs.Prelude.{option_map, option_and_then}
+use Rattle.lrc_base.specs.declared.grammar.Kid.{Kid}
+use Rattle.lrc_base.specs.declared.grammar.Production.{Production}
+use Rattle.lrc_base.specs.declared.expr.Op.{Op}
+use Rattle.lrc_base.specs.declared.expr.Expr.{Expr}
+use Rattle.lrc_base.specs.declared.expr.Expr.TheVariants as e
+use Rattle.lrc_base.specs.declared.raw.RawExpr.{RawExpr, RawExpr-F, fold-roll-RawExpr}
+use Rattle.lrc_base.specs.declared.raw.RawExpr.TheVariants as x
+use Rattle.lrc_base.specs.declared.raw.RawTerm.{RawTerm, RawTerm-F, fold-roll-RawTerm}
+use Rattle.lrc_base.specs.declared.raw.RawTerm.TheVariants as t
+use Rattle.lrc_meaning.specs.Tree.{Tree, int, bool, name, node, row}
+use Rattle.lrc_meaning.specs.Naming.{Called, named_step, named_expr, or_leaf, occurrence_number, named_tree_step, named_tree, production_number, each_some}
+
+module _ (os : List Called) (ks : List Kid) where
+  pub named_expr-Int : (i : ℤ) → named_expr os ks (x.Int i) ≡ Some (e.Int i)
+  unfolding named_expr
+  named_expr-Int i = ap (named_expr os ks) (sym (x.rolls-Int i)) ∙ fold-roll-RawExpr (Option Expr) (named_step os ks) (RawExpr-F.Int i)
+
+  pub named_expr-Bool : (b : Bool) → named_expr os ks (x.Bool b) ≡ None
+  unfolding named_expr
+  named_expr-Bool b = ap (named_expr os ks) (sym (x.rolls-Bool b)) ∙ fold-roll-RawExpr (Option Expr) (named_step os ks) (RawExpr-F.Bool b)
+
+  pub named_expr-Name : (n : List ℕ) → named_expr os ks (x.Name n) ≡ None
+  unfolding named_expr
+  named_expr-Name n = ap (named_expr os ks) (sym (x.rolls-Name n)) ∙ fold-roll-RawExpr (Option Expr) (named_step os ks) (RawExpr-F.Name n)
+
+  pub named_expr-One : (n : List ℕ) → named_expr os ks (x.One n) ≡ or_leaf ks n (occurrence_number os None n)
+  unfolding named_expr
+  named_expr-One n = ap (named_expr os ks) (sym (x.rolls-One n)) ∙ fold-roll-RawExpr (Option Expr) (named_step os ks) (RawExpr-F.One n)
+
+  pub named_expr-Two : (c a : List ℕ) → named_expr os ks (x.Two c a) ≡ option_map e.Occ (occurrence_number os (Some c) a)
+  unfolding named_expr
+  named_expr-Two c a = ap (named_expr os ks) (sym (x.rolls-Two c a)) ∙ fold-roll-RawExpr (Option Expr) (named_step os ks) (RawExpr-F.Two c a)
+
+  pub named_expr-Op : (op : Op) (a b : RawExpr) →
+      named_expr os ks (x.Op op a b) ≡ option_and_then (λ y. option_map (λ z. e.Op op y z) (named_expr os ks b)) (named_expr os ks a)
+  unfolding named_expr
+  named_expr-Op op a b = ap (named_expr os ks) (sym (x.rolls-Op op a b)) ∙ fold-roll-RawExpr (Option Expr) (named_step os ks) (RawExpr-F.Op op a b)
+
+  pub named_expr-If : (c a b : RawExpr) → named_expr os ks (x.If c a b) ≡ None
+  unfolding named_expr
+  named_expr-If c a b = ap (named_expr os ks) (sym (x.rolls-If c a b)) ∙ fold-roll-RawExpr (Option Expr) (named_step os ks) (RawExpr-F.If c a b)
+
+  pub named_expr-Make : (n : List ℕ) (args : List RawExpr) → named_expr os ks (x.Make n args) ≡ None
+  unfolding named_expr
+  named_expr-Make n args = ap (named_expr os ks) (sym (x.rolls-Make n args)) ∙ fold-roll-RawExpr (Option Expr) (named_step os ks) (RawExpr-F.Make n args)
+
+pub ruleset named_expr_equations = (named_expr-Int, named_expr-Bool, named_expr-Name, named_expr-One, named_expr-Two, named_expr-Op, named_expr-If, named_expr-Make)
+
+module _ (prods : List Production) where
+  pub named_tree-Int : (i : ℤ) → named_tree prods (t.Int i) ≡ Some (int i)
+  unfolding named_tree
+  named_tree-Int i = ap (named_tree prods) (sym (t.rolls-Int i)) ∙ fold-roll-RawTerm (Option Tree) (named_tree_step prods) (RawTerm-F.Int i)
+
+  pub named_tree-Bool : (b : Bool) → named_tree prods (t.Bool b) ≡ Some (bool b)
+  unfolding named_tree
+  named_tree-Bool b = ap (named_tree prods) (sym (t.rolls-Bool b)) ∙ fold-roll-RawTerm (Option Tree) (named_tree_step prods) (RawTerm-F.Bool b)
+
+  pub named_tree-Name : (n : List ℕ) → named_tree prods (t.Name n) ≡ Some (name n)
+  unfolding named_tree
+  named_tree-Name n = ap (named_tree prods) (sym (t.rolls-Name n)) ∙ fold-roll-RawTerm (Option Tree) (named_tree_step prods) (RawTerm-F.Name n)
+
+  pub named_tree-Node : (n : List ℕ) (kids : List RawTerm) →
+      named_tree prods (t.Node n kids) ≡ option_and_then (λ p. option_map (λ ts. node p (row ts)) (each_some (map (named_tree prods) kids))) (production_number prods n)
+  unfolding named_tree
+  named_tree-Node n kids = ap (named_tree prods) (sym (t.rolls-Node n kids)) ∙ fold-roll-RawTerm (Option Tree) (named_tree_step prods) (RawTerm-F.Node n kids)
+
+pub ruleset named_tree_equations = (named_tree-Int, named_tree-Bool, named_tree-Name, named_tree-Node)

@@ -1,0 +1,82 @@
+ghost use Rattle.std.specs.Prelude.{◌≡◌, ◌<◌, ◌≤◌, ◌^◌, length, map, All, option_map, IfOk, IfSome};
+ghost use Rattle.lrc_meaning.specs.Naming.{named_sort, named_production, named_grammar, each_some};
+ghost use Rattle.lrc_meaning.specs.Limits.{KeepsLimits};
+ghost use Rattle.lrc_naming.specs.Called.{HasFewAttrs};
+ghost use Rattle.lrc_naming.specs.Numbered.{grammar};
+
+use crate::kind::{named_sort, sort_number};
+use crate::production::named_production;
+use lrc_base::{List, Memory, Production, RawGrammar, RawProd, RawSort, Sort};
+use std::alloc::Global;
+
+/// A grammar by numbers, not yet checked: its sorts, its productions, and the number of the start
+/// sort.
+#[derive(Debug, Drop)]
+pub struct Numbered {
+    pub sorts: List<Sort>,
+    pub prods: List<Production>,
+    pub start: u32,
+}
+
+fn named_sorts(alloc: Global, sorts: &[RawSort]) -> Result<Option<List<Sort>>, Memory>
+    requires { length sorts.now < 2 ^ 32 }
+    ensures { IfOk result (λ named. named ≡ each_some (map (named_sort sorts.now) sorts.now)) }
+{
+    let mut named = List::new(alloc);
+    for sort in sorts {
+        let Some(one) = named_sort(alloc, sorts, sort)? else {
+            return Ok(None);
+        };
+        named.push(one)?;
+    }
+    Ok(Some(named))
+}
+
+fn named_productions(
+    alloc: Global,
+    raw: &[RawSort],
+    sorts: &[Sort],
+    prods: &[RawProd],
+) -> Result<Option<List<Production>>, Memory>
+    requires sorts { length raw.now < 2 ^ 32 }
+    requires attrs { All HasFewAttrs sorts.now }
+    requires kids { All (λ p. length p.kids ≤ 8) prods.now }
+    ensures { IfOk result (λ named. named ≡ each_some (map (named_production raw.now sorts.now) prods.now)) }
+{
+    let mut named = List::new(alloc);
+    for prod in prods {
+        let Some(one) = named_production(alloc, raw, sorts, prod)? else {
+            return Ok(None);
+        };
+        named.push(one)?;
+    }
+    Ok(Some(named))
+}
+
+/// The grammar that is written, by numbers; None where a name is unknown, or where a form stands
+/// that is not read yet: locals, nonterminal attributes, equations of a child's attribute,
+/// patterns, and of expressions truth values, names, choices and built trees.
+pub fn named_grammar(alloc: Global, raw: &RawGrammar) -> Result<Option<Numbered>, Memory>
+    requires { KeepsLimits raw.now }
+    ensures numbers { IfOk result (λ named. option_map grammar named ≡ named_grammar raw.now) }
+
+    // as many productions as are written
+    ensures within { IfOk result (λ named. IfSome named (λ g. length g.prods ≤ 256)) }
+{
+    let raw_sorts = raw.sorts.as_slice();
+    let Some(sorts) = named_sorts(alloc, raw_sorts)? else {
+        return Ok(None);
+    };
+    let Some(prods) = named_productions(alloc, raw_sorts, sorts.as_slice(), raw.prods.as_slice())?
+    else {
+        return Ok(None);
+    };
+    let Some(start) = sort_number(raw_sorts, raw.start) else {
+        return Ok(None);
+    };
+    Ok(Some(Numbered {
+        sorts,
+        prods,
+        start,
+    }))
+}

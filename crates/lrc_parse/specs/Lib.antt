@@ -1,0 +1,6 @@
+pub mod Kinds
+pub mod Language
+pub mod Reading
+pub mod Exact
+pub mod Faults
+pub mod Sums

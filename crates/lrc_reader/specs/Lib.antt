@@ -1,0 +1,5 @@
+pub mod Lexeme
+pub mod Grammar
+pub mod Reading
+pub mod Gives
+pub mod Denotes

@@ -1,0 +1,217 @@
+//! What the reader sees of a token.
+
+ghost use Rattle.std.specs.Prelude.{◌≡◌, map};
+ghost use Rattle.lrc_base.specs.Name.{IsName};
+ghost use Rattle.lrc_lex.specs.Longest.{IsTokenOf};
+ghost use Rattle.lrc_reader.specs.Grammar as grammar;
+ghost use Rattle.lrc_reader.specs.Lexeme as spec;
+
+use lrc_base::NameText;
+use lrc_lex::{Token, TokenClass, natural};
+
+/// A reserved word or a symbol: what stands for nothing but itself.
+#[derive(Debug, Clone, Copy, PartialEq, Eq)]
+pub enum Mark {
+    LeftBrace,
+    RightBrace,
+    LeftParen,
+    RightParen,
+    Colon,
+    Semicolon,
+    Comma,
+    Dot,
+    Equals,
+    SameAs,
+    Less,
+    Plus,
+    Minus,
+    Star,
+    Lrc,
+    Sort,
+    Prod,
+    Start,
+    Session,
+    Inh,
+    Syn,
+    Local,
+    Attach,
+    Text,
+    On,
+    Put,
+    Copy,
+    Show,
+    Forget,
+    If,
+    Then,
+    Else,
+    True,
+    False,
+    Int,
+    Bool,
+    Name,
+}
+
+/// How each mark is spelled.
+pub const MARKS: [(&[u8], Mark); 37] = [
+    (b"{", Mark::LeftBrace),
+    (b"}", Mark::RightBrace),
+    (b"(", Mark::LeftParen),
+    (b")", Mark::RightParen),
+    (b":", Mark::Colon),
+    (b";", Mark::Semicolon),
+    (b",", Mark::Comma),
+    (b".", Mark::Dot),
+    (b"=", Mark::Equals),
+    (b"==", Mark::SameAs),
+    (b"<", Mark::Less),
+    (b"+", Mark::Plus),
+    (b"-", Mark::Minus),
+    (b"*", Mark::Star),
+    (b"lrc", Mark::Lrc),
+    (b"sort", Mark::Sort),
+    (b"prod", Mark::Prod),
+    (b"start", Mark::Start),
+    (b"session", Mark::Session),
+    (b"inh", Mark::Inh),
+    (b"syn", Mark::Syn),
+    (b"local", Mark::Local),
+    (b"attach", Mark::Attach),
+    (b"text", Mark::Text),
+    (b"on", Mark::On),
+    (b"put", Mark::Put),
+    (b"copy", Mark::Copy),
+    (b"show", Mark::Show),
+    (b"forget", Mark::Forget),
+    (b"if", Mark::If),
+    (b"then", Mark::Then),
+    (b"else", Mark::Else),
+    (b"true", Mark::True),
+    (b"false", Mark::False),
+    (b"Int", Mark::Int),
+    (b"Bool", Mark::Bool),
+    (b"Name", Mark::Name),
+];
+
+/// What the reader sees of a token.
+#[derive(Debug, Clone, Copy)]
+pub enum Lexeme {
+    Mark(Mark),
+    /// A word that is not reserved.
+    Word(NameText),
+    /// A natural by its value.
+    Natural(i64),
+    /// A token of a class that no job of this form has.
+    Other,
+}
+
+/// The mark that is spelled so.
+fn mark_in(mut table: &[(&[u8], Mark)], spelling: &[u8]) -> Option<Mark>
+    ensures { result ≡ spec.mark_in (map (λ k. (k.0.now, k.1)) table.entry.now) spelling.now }
+{
+    while let [entry, rest @ ..] = table {
+        if entry.0 == spelling {
+            return Some(entry.1);
+        }
+        table = rest;
+    }
+    None
+}
+
+#[tactic(auto, unfolding(crate::specs::Lexeme::mark_of))]
+/// The mark that is spelled so, a reserved word or a symbol.
+pub fn mark_of(spelling: &[u8]) -> Option<Mark>
+    ensures { result ≡ spec.mark_of spelling.now }
+{
+    mark_in(&MARKS, spelling)
+}
+
+/// A word by its spelling, reserved or not.
+fn word(spelling: &[u8]) -> Lexeme
+    requires { IsName spelling.now }
+    ensures { result ≡ spec.word_or spelling.now (spec.mark_of spelling.now) }
+{
+    if let Some(mark) = mark_of(spelling) {
+        return Lexeme::Mark(mark);
+    }
+    match NameText::of(spelling) {
+        Some(name) => Lexeme::Word(name),
+        None => unreachable!(),
+    }
+}
+
+#[tactic(auto, unfolding(crate::specs::Lexeme::seen))]
+/// What the reader sees of a token of this text.
+pub fn lexeme_of(text: &[u8], token: Token) -> Lexeme
+    requires { IsTokenOf text.now token }
+    ensures { result ≡ spec.lexeme_of text.now token }
+{
+    let spelling = &text[token.at as usize..token.end as usize];
+    match token.class {
+        TokenClass::Word => word(spelling),
+        TokenClass::Natural => Lexeme::Natural(natural(spelling)),
+        TokenClass::Symbol => match mark_of(spelling) {
+            Some(mark) => Lexeme::Mark(mark),
+            None => Lexeme::Other,
+        },
+        TokenClass::Negative | TokenClass::NameLit | TokenClass::Text | TokenClass::Path => {
+            Lexeme::Other
+        }
+    }
+}
+
+/// The kind of every word.
+pub const WORD_KIND: u8 = 0;
+
+/// The kind of every natural.
+pub const NATURAL_KIND: u8 = 1;
+
+/// The number of a mark, from 3 on.
+pub fn number_of(mark: Mark) -> u8
+    ensures { result ≡ spec.number mark }
+{
+    mark as u8 + 3
+}
+
+/// What a grammar tells lexemes by.
+pub fn kind_of(lexeme: Lexeme) -> u8
+    ensures { result ≡ spec.kind lexeme }
+{
+    match lexeme {
+        Lexeme::Word(_) => WORD_KIND,
+        Lexeme::Natural(_) => NATURAL_KIND,
+        Lexeme::Other => 2,
+        Lexeme::Mark(mark) => number_of(mark),
+    }
+}
+
+impl Lexeme {
+    /// The name that a word is.
+    pub fn name(&self) -> Option<NameText>
+        ensures { result ≡ spec.word_of self.now }
+    {
+        match self {
+            Lexeme::Word(name) => Some(*name),
+            _ => None,
+        }
+    }
+
+    /// The value of a natural.
+    pub fn value(&self) -> Option<i64>
+        ensures { result ≡ spec.natural_of self.now }
+    {
+        match self {
+            Lexeme::Natural(value) => Some(*value),
+            _ => None,
+        }
+    }
+
+    /// That a natural is 1.
+    pub fn one(&self) -> Option<()>
+        ensures { result ≡ grammar.one_of self.now }
+    {
+        match self {
+            Lexeme::Natural(value) => { if *value == 1 { Some(()) } else { None } }
+            _ => None,
+        }
+    }
+}
