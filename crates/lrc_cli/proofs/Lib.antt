@@ -3,3 +3,4 @@ pub mod LineLemmas
 pub mod StatusLemmas
 pub mod FaultLemmas
 pub mod RunLemmas
+pub mod OneLemmas

@@ -1,5 +1,5 @@
 -- Lemmas on what is printed of a line.
-use Rattle.std.proofs.Common.{◌≡◌, ℕ, ◌+◌, ◌<◌, ◌≤◌, Option, List, [], ◌∷◌, ◌++◌, length, take, Result, Ok, Err, OnOk, OnErr, ◌⊎◌, inl, inr, arith, length-append, sym}
+use Rattle.std.proofs.Common.{ℕ, ◌+◌, ◌<◌, ◌≤◌, Option, List, ◌++◌, length, take, Result, Ok, Err, OnOk, OnErr, inl, inr, arith, length-append}
 use Rattle.std.proofs.lemmas.List.{take-append-le}
 use Rattle.std.proofs.Math.Seq.{take-append-add}
 use Rattle.std.proofs.KnownBytes.{Appends-trans}

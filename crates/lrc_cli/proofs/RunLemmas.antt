@@ -1,5 +1,5 @@
 -- From the parts of a job to the job that is built, and to the text of its run.
-use Rattle.std.proofs.Common.{◌≡◌, ℕ, ℤ, ◌≤◌, Bool, true, false, cond, ◌&&◌, not, IsTrue, List, [], ◌∷◌, map, Option, Some, None, MatchOption, refl, sym, ap, subst, ◌∙◌, arith}
+use Rattle.std.proofs.Common.{◌≡◌, ℕ, ℤ, ◌≤◌, Bool, true, false, cond, ◌&&◌, not, IsTrue, List, [], ◌∷◌, map, Some, refl, sym, ap, subst, ◌∙◌, arith}
 use Rattle.std.specs.List.{list_all}
 use Rattle.lrc_base.specs.declared.grammar.Attr.{Attr}
 use Rattle.lrc_base.specs.declared.job.Job.{Job}
@@ -8,10 +8,10 @@ use Rattle.lrc_base.specs.declared.raw.RawGrammar.{RawGrammar}
 use Rattle.lrc_meaning.specs.Tree.{Tree, int, tree_height}
 use Rattle.lrc_meaning.specs.Grammar.{Grammar, attrs_of_sort, is_well_formed, is_start_right}
 use Rattle.lrc_meaning.specs.Attribution.{Attributes}
-use Rattle.lrc_meaning.specs.Editing.{Reply, values, gives, done, opens}
+use Rattle.lrc_meaning.specs.Editing.{values, gives, done, opens}
 use Rattle.lrc_meaning.specs.Text.{synthesised_attrs}
 use Rattle.lrc_reader.specs.Denotes.{Denotes}
-use Rattle.lrc_cli.specs.Headline.{HasNoScript, IsGrammarOf, IsTreeOf, IsBuilt, IsRunOf, depth_limit}
+use Rattle.lrc_cli.specs.Headline.{HasNoScript, IsGrammarOf, IsTreeOf, IsBuilt, IsRunOf}
 use Rattle.lrc_cli.specs.Opening.{opening_text}
 use Rattle.lrc_cli.proofs.TextLemmas.{run_text-opening}
 
@@ -30,10 +30,10 @@ pub no_grammar : OneJob → (bytes : List ℕ) (job : Job) → Denotes bytes job
 no_grammar one bytes job d none g t b =
     none g (subst (λ (j : Job). IsGrammarOf j.grammar g) (one bytes b.job job b.denotes d) b.of_grammar)
 
-same_grammar : (raw : RawGrammar) (g h : Grammar) → IsGrammarOf raw g → IsGrammarOf raw h → g ≡ h
+pub same_grammar : (raw : RawGrammar) (g h : Grammar) → IsGrammarOf raw g → IsGrammarOf raw h → g ≡ h
 same_grammar raw g h a b = let e = a.named in let f = b.named in cc
 
-same_script : (job : Job) (s r : RawScript) → job.sessions ≡ s ∷ [] → job.sessions ≡ r ∷ [] → s ≡ r
+pub same_script : (job : Job) (s r : RawScript) → job.sessions ≡ s ∷ [] → job.sessions ≡ r ∷ [] → s ≡ r
 same_script job s r e f = cc
 
 pub no_tree : OneJob → (bytes : List ℕ) (job : Job) (script : RawScript) (grammar : Grammar) → Denotes bytes job → job.sessions ≡ script ∷ [] → IsGrammarOf job.grammar grammar →

@@ -1,13 +1,16 @@
 -- Lemmas on what the statuses say.
-use Rattle.std.proofs.Common.{◌≡◌, ℕ, ◌<◌, ◌≤◌, List, [], length, take, drop, Option, Some, None, MatchOption, Vec, Global, arith, ap, ◌∙◌, subst}
-use Rattle.std.proofs.lemmas.List.{drop_all}
+use Rattle.std.proofs.Common.{◌≡◌, ℕ, ◌<◌, ◌≤◌, List, length, take, Option, Some, None, MatchOption, Vec, Global, ◌⊎◌, inr, ◌≢◌, refl, sym, arith, ap, ◌∙◌, subst}
+use Rattle.std.proofs.lemmas.List.{drop_all, take_all}
 use Rattle.std.proofs.lemmas.Grind.{common_steps}
 use Rattle.std.specs.Io.KnownBytes.{Appends}
 use Rattle.lrc_outside.specs.Known.{TakesUpTo, AppendsPart}
 use Rattle.lrc_meaning.specs.Tree.{Tree}
 use Rattle.lrc_meaning.specs.Grammar.{Grammar}
 use Rattle.lrc_cli.specs.Headline.{IsBuilt, IsRunOf}
-use Rattle.lrc_cli.specs.Status.{input_limit, IsReadWhole, Done, Unwritten}
+use Rattle.lrc_cli.specs.Status.{input_limit, IsReadWhole, Done, Unwritten, Refused, HoldsJob}
+use Rattle.lrc_cli.specs.Faults.{status_of}
+use Rattle.lrc_cli.specs.declared.failure.Failure.{Failure}
+use Rattle.lrc_cli.specs.declared.failure.Failure.TheVariants.{Usage, Read, Write, NotBuilt, Memory}
 
 few : (n : ℕ) (xs : List ℕ) → length (take n xs) < n → length xs ≤ n
 few n xs h = grind (arith, common_steps)
@@ -39,3 +42,19 @@ answered bytes input o text a is same = subst (λ (z : List ℕ). IsRunOf z text
 
 pub not_answered : (bytes input : List ℕ) (o : Option (Vec ℕ Global)) → Answers bytes o → o ≡ None → bytes ≡ input → (g : Grammar) (t : Tree) → ¬ IsBuilt input g t
 not_answered bytes input o a is same g t = subst (λ (z : List ℕ). ¬ IsBuilt z g t) same (let none : Answers bytes None = subst (Answers bytes) is a in none g t)
+
+-- a source that holds a job is not refused
+pub not_refused : (left left' : Option (List ℕ)) → HoldsJob left → ¬ Refused left left'
+not_refused None left' h r = h
+not_refused (Some bytes) left' h r =
+    let short : length bytes ≤ 16777216 = h.2.denotes.short in
+    let whole : r.input ≡ bytes = r.read.0 ∙ take_all input_limit bytes (omega arith) in
+    r.not_built h.0 h.1 (subst (λ (z : List ℕ). IsBuilt z h.0 h.1) (sym whole) h.2)
+
+-- with no other fault the status is that of a run, or want of memory
+pub done_or_memory : (f : Failure) → f ≢ Usage → f ≢ Read → f ≢ Write → f ≢ NotBuilt → (status_of f ≡ 0) ⊎ (status_of f ≡ 7)
+done_or_memory Usage a b c d = absurd (a refl)
+done_or_memory Read a b c d = absurd (b refl)
+done_or_memory Write a b c d = absurd (c refl)
+done_or_memory NotBuilt a b c d = absurd (d refl)
+done_or_memory Memory a b c d = inr refl

@@ -1,5 +1,5 @@
 -- What is printed for one session without edits whose opening is answered with values.
-use Rattle.std.specs.Prelude.{ℕ, ℤ, List, [], ◌∷◌, ◌++◌, map, codes, decimal}
+use Rattle.std.specs.Prelude.{ℕ, ℤ, List, [], ◌++◌, map, codes, decimal}
 use Rattle.lrc_base.specs.declared.grammar.Attr.{Attr}
 use Rattle.lrc_meaning.specs.Tree.{int}
 use Rattle.lrc_meaning.specs.Text.{named_values, line_feed}

@@ -36,3 +36,8 @@ pub record Refused (left left' : Option (List ℕ)) : Type 0 where
   pub input : List ℕ
   pub read : TakesUpTo input_limit left left' input
   pub not_built : (grammar : Grammar) (opening : Tree) → ¬ IsBuilt input grammar opening
+
+-- the source tells its bytes, and they are a job that is built
+abbrev pub HoldsJob : Option (List ℕ) → Type 0
+HoldsJob None = ⊥
+HoldsJob (Some bytes) = (grammar : Grammar) × (opening : Tree) × IsBuilt bytes grammar opening

@@ -1,5 +1,5 @@
 -- Which command lines are taken.
-use Rattle.std.specs.Prelude.{◌≡◌, ℕ, List, length, slice_get, Some, String, string_bytes, codes}
+use Rattle.std.specs.Prelude.{◌≡◌, List, length, slice_get, Some, String, string_bytes, codes}
 use Rattle.std.specs.declared.alloc.Global.{Global}
 
 -- two words, the second of them `run`

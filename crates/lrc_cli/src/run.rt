@@ -1,4 +1,4 @@
-ghost use Rattle.std.specs.Prelude.{◌≡◌, ◌≤◌, ℕ, [], ◌∷◌, length, MatchOption, IfOk, IfSome};
+ghost use Rattle.std.specs.Prelude.{◌≡◌, ◌≤◌, ℕ, List, [], ◌∷◌, length, MatchOption, IfOk, IfSome};
 ghost use Rattle.lrc_base.specs.declared.job.Job.{Job};
 ghost use Rattle.lrc_meaning.specs.Grammar as meaning;
 ghost use Rattle.lrc_meaning.specs.Limits.{KeepsLimits};
@@ -12,7 +12,7 @@ use lrc_base::{Job, Kind, Memory, RawGrammar, RawScript, RawTerm, Term};
 use lrc_grammar::{Grammar, attrs_of_sort, fits, is_within};
 use lrc_naming::{named_grammar, named_tree};
 use lrc_reader::{JobFault, one_job, read_job};
-use lrc_scratch::attributes;
+use lrc_scratch::{attributes, plain_attributions};
 use std::alloc::{AllocError, Global};
 
 /// The most nodes on the longest path of a tree that is evaluated.
@@ -119,4 +119,13 @@ pub fn run_text(alloc: Global, bytes: &[u8]) -> Result<Option<Vec<u8>>, Memory>
     let values = attributes(alloc, sorts, prods, start, &opening.tree)?;
     let text = opening_text(alloc, attrs_of_sort(sorts, start), values.as_slice())?;
     Ok(Some(text))
+}
+
+/// The text of a run is fixed by the bytes of the job: they denote one job, and its tree has one
+/// attribution.
+pub fn one_text()
+    ensures { (bytes text other : List ℕ) → IsRunOf bytes text → IsRunOf bytes other → text ≡ other }
+{
+    one_job();
+    plain_attributions();
 }

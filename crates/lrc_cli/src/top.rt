@@ -1,14 +1,15 @@
-ghost use Rattle.std.specs.Prelude.{◌≡◌, ◌≢◌, ◌≤◌, ◌↔◌, ◌⊎◌, Ok, Err, OnOk};
+ghost use Rattle.std.specs.Prelude.{◌≡◌, ℕ, List, ◌≢◌, ◌≤◌, ◌↔◌, ◌⊎◌, Ok, Err, OnOk};
 ghost use Rattle.std.specs.Io.KnownBytes.{Keeps};
 ghost use Rattle.lrc_outside.specs.Count.{Rose};
 ghost use Rattle.lrc_cli.specs.Words.{IsRunCommand};
 ghost use Rattle.lrc_cli.specs.Faults.{status_of, line_of, IsStatus};
 ghost use Rattle.lrc_cli.specs.declared.failure.Failure.{Failure};
+ghost use Rattle.lrc_cli.specs.Headline.{IsRunOf};
 ghost use Rattle.lrc_cli.specs.Line.{GainsLine};
-ghost use Rattle.lrc_cli.specs.Status.{Done, Unwritten, Refused};
+ghost use Rattle.lrc_cli.specs.Status.{Done, Unwritten, Refused, HoldsJob};
 
 use crate::failure::Failure;
-use crate::run::run_text;
+use crate::run::{one_text, run_text};
 use crate::words::is_run_command;
 use lrc_outside::{Failed, Sink, Source, put_all, take_up_to};
 use std::alloc::Global;
@@ -72,6 +73,7 @@ pub fn lrc<R: Threads + Sync, S: Source, O: Sink, E: Sink>(
     err: &mut E,
 ) -> u8
     ensures done { result ≡ 0 → Done (S.left source.old) (S.left source.new) (O.held out.old) (O.held out.new) }
+    ensures one_text { (bytes text other : List ℕ) → IsRunOf bytes text → IsRunOf bytes other → text ≡ other }
     ensures usage { (result ≡ 2) ↔ ¬ IsRunCommand words.now }
     ensures unread { result ≡ 2 → Keeps (S.left source.old) (S.left source.new) }
     ensures read_fault { result ≡ 3 → Rose (S.faults source.old) (S.faults source.new) }
@@ -79,6 +81,7 @@ pub fn lrc<R: Threads + Sync, S: Source, O: Sink, E: Sink>(
     ensures part { result ≡ 4 → Unwritten (S.left source.old) (S.left source.new) (O.held out.old) (O.held out.new) }
     ensures refused { result ≡ 5 → Refused (S.left source.old) (S.left source.new) }
     ensures statuses { IsStatus result }
+    ensures complete { IsRunCommand words.now → ¬ Rose (S.faults source.old) (S.faults source.new) → ¬ Rose (O.faults out.old) (O.faults out.new) → HoldsJob (S.left source.old) → (result ≡ 0) ⊎ (result ≡ 7) }
 
     // Nothing is written before all is computed, and of a fault only its line.
     ensures nothing_written { result ≢ 0 → result ≢ 4 → Keeps (O.held out.old) (O.held out.new) }
@@ -90,6 +93,7 @@ pub fn lrc<R: Threads + Sync, S: Source, O: Sink, E: Sink>(
     ensures out_count { O.faults out.old ≤ O.faults out.new }
     ensures err_count { E.faults err.old ≤ E.faults err.new }
 {
+    one_text();
     match run(alloc, words, source, out) {
         Ok(()) => 0,
         Err(failure) => {

@@ -1,6 +1,5 @@
 use Rattle.lrc_cli.proofs.RunLemmas.{no_job, no_script, no_grammar, no_tree, built}
 use Rattle.lrc_grammar.specs.Grammar.{grammar_of}
-use Rattle.lrc_meaning.specs.Tree.{tree}
 use Rattle.lrc_cli.proofs.run.opening_from.Goals as goal
 
 pub returns-in_default : goal.returns-in_default

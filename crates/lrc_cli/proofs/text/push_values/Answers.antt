@@ -1,4 +1,4 @@
-use Rattle.std.proofs.Common.{◌≡◌, length, min, arith, ◌∙◌, sym}
+use Rattle.std.proofs.Common.{◌≡◌, length, min, arith}
 use Rattle.std.proofs.lemmas.Slice.Zip.{zip_end}
 use Rattle.std.proofs.lemmas.Grind.{common_steps}
 use Rattle.lrc_cli.proofs.TextLemmas.{named_values-end}

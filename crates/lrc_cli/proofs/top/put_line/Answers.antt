@@ -1,5 +1,5 @@
 use Rattle.std.proofs.Common.{[], ◌∷◌}
-use Rattle.lrc_cli.proofs.LineLemmas.{line_gained, line_cut}
+use Rattle.lrc_cli.proofs.LineLemmas.{line_gained}
 use Rattle.lrc_cli.proofs.top.put_line.Goals as goal
 
 pub returns-clause-line : goal.returns-clause-line

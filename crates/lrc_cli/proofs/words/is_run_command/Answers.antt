@@ -1,4 +1,4 @@
-use Rattle.std.proofs.Common.{◌≡◌, ℕ, ◌<◌, Bool, IsTrue, List, length, get_or, slice_get, Some, String, Global, string_bytes, codes, bytes_eq, arith, sym, ap, ◌∙◌}
+use Rattle.std.proofs.Common.{◌≡◌, Bool, IsTrue, List, length, get_or, slice_get, Some, String, Global, string_bytes, codes, bytes_eq, arith, sym, ap, ◌∙◌}
 use Rattle.std.proofs.lemmas.Option.{slice_get-get_or}
 use Rattle.std.proofs.lemmas.Slice.Eq.{bytes_eq-Decides}
 use Rattle.lrc_cli.specs.Words.{IsRunCommand}
