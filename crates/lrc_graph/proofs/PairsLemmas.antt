@@ -1,5 +1,5 @@
 -- Paths, and the passes that close a relation.
-use Rattle.std.proofs.Common.{◌≡◌, ℕ, ◌+◌, ◌<◌, ◌≤◌, ◌⊎◌, ◌∙◌, inl, inr, arith, subst, sym, refl}
+use Rattle.std.proofs.Common.{◌≡◌, ℕ, ◌+◌, ◌<◌, ◌⊎◌, ◌∙◌, inl, inr, arith, subst, sym, refl}
 use Rattle.std.specs.Prelude.{◌↔◌}
 use Rattle.std.proofs.lemmas.Bool.{cases_lt}
 use Rattle.lrc_graph.specs.Pairs.{Pairs, Has, HasExactly, With, Path, step, onward, IsTransitive}
@@ -8,6 +8,10 @@ use Rattle.lrc_graph.specs.Pairs.{Pairs, Has, HasExactly, With, Path, step, onwa
 pub joined : (R : ℕ → ℕ → Type 0) (a b c : ℕ) → Path R a b → Path R b c → Path R a c
 joined R _ _ c (step a b r) q = onward a b c r q
 joined R _ _ c (onward a m b r p) q = onward a m c r (joined R m b c p q)
+
+-- the pairs that paths join are closed
+pub closed-paths : (R : ℕ → ℕ → Type 0) (now : Pairs) → HasExactly now (Path R) → IsTransitive (Has now)
+closed-paths R now exact a b c p q = (exact a c).1 (joined R a b c ((exact a b).0 p) ((exact b c).0 q))
 
 -- a transitive relation that has the pairs of R has those that a path along R joins
 pub along : (R S : ℕ → ℕ → Type 0) → ((a b : ℕ) → R a b → S a b) → IsTransitive S → (a b : ℕ) → Path R a b → S a b
@@ -83,7 +87,7 @@ pub Shortened-all : (old now : Pairs) (n : ℕ) → ((a b : ℕ) → Has old a b
 Shortened-all old now n small h x y = (
   h.sound x y,
   along (Has old) (Has now) h.keeps
-  (λ a m b p q. h.through m a b (ends (Has old) n small a m (h.sound a m p)).1 p q) x y,
+      (λ a m b p q. h.through m a b (ends (Has old) n small a m (h.sound a m p)).1 p q) x y,
 )
 
 -- the pairs of R, and in the rows below n each point of To with each of From
@@ -139,18 +143,6 @@ module _ (R : ℕ → ℕ → Type 0) (To From : ℕ → Type 0) where
     λ p. elim p [ inl r ↦ (exact x y).1 (inl r) | inr t ↦ (exact x y).1 (inr (small x t.0, t.0, t.1)) ],
   )
 
-pub rows-none : (old : Pairs) (To From : ℕ → Type 0) → HasExactly old (RowsBelow (Has old) To From 0)
-rows-none old To From x y = (λ p. inl p, λ p. elim p [ inl r ↦ r | inr t ↦ absurd (let small = t.0 in omega arith) ])
-
--- in a pass, the column and the row of `via` stay as they were
-pub column-same : (R : ℕ → ℕ → Type 0) (via n x : ℕ) → RowsBelow R (λ p. R p via) (λ q. R via q) n x via → R x via
-column-same R via n x (inl r) = r
-column-same R via n x (inr t) = t.1
-
-pub row-same : (R : ℕ → ℕ → Type 0) (via n y : ℕ) → RowsBelow R (λ p. R p via) (λ q. R via q) n via y → R via y
-row-same R via n y (inl r) = r
-row-same R via n y (inr t) = t.2
-
 -- x is a, or leads to it
 abbrev pub Before : (ℕ → ℕ → Type 0) → ℕ → ℕ → Type 0
 Before R a x = (x ≡ a) ⊎ R x a
@@ -177,6 +169,36 @@ module _ (R : ℕ → ℕ → Type 0) (a b : ℕ) where
     λ p. elim p [ inl e ↦ inl e | inr h ↦ elim ((exact b y).0 h) [ inl r ↦ inr r | inr t ↦ t.2 ] ],
     λ p. elim p [ inl e ↦ inl e | inr r ↦ inr ((exact b y).1 (inl r)) ],
   )
+
+  -- the row of n is done, once it has the row of b and then b
+  pub bridged-more : (now mid next : Pairs) (n : ℕ) → HasExactly now (RowsBelow R (Before R a) (After R b) n) → Before (Has now) a n
+      → HasExactly mid (λ x y. Has now x y ⊎ ((x ≡ n) × Has now b y)) → HasExactly next (With (Has mid) n b)
+      → HasExactly next (RowsBelow R (Before R a) (After R b) (n + 1))
+  bridged-more now mid next n exact here row new =
+      rows-more R (Before R a) (After R b) now next n (After (Has now) b) exact ((before-same now n n exact).0 here)
+      (λ y. after-same now n y exact)
+      (λ x y. (
+        λ h.
+            elim ((new x y).0 h) [
+              | inl m ↦ elim ((row x y).0 m) [ inl r ↦ inl r | inr t ↦ inr (t.0, inr t.1) ]
+              | inr e ↦ inr (e.0, inl e.1)
+            ],
+        λ h.
+            elim h [
+              | inl r ↦ (new x y).1 (inl ((row x y).1 (inl r)))
+              | inr t ↦
+                  elim t.1 [
+                    | inl e ↦ (new x y).1 (inr (t.0, e))
+                    | inr r ↦ (new x y).1 (inl ((row x y).1 (inr (t.0, r))))
+                  ]
+            ],
+      ))
+
+  -- the row of a point that does not lead to a stays as it was
+  pub bridged-same : (now : Pairs) (n : ℕ) → HasExactly now (RowsBelow R (Before R a) (After R b) n) → ¬ Before (Has now) a n
+      → HasExactly now (RowsBelow R (Before R a) (After R b) (n + 1))
+  bridged-same now n exact other =
+      rows-same R (Before R a) (After R b) now n exact (λ t. other ((before-same now n n exact).1 t))
 
   away : (y : ℕ) → After R b y → Path (With R a b) a y
   away y (inl e) = step a y (inr (refl, e))

@@ -1,5 +1,5 @@
 -- What writes to words do to the pairs of a table.
-use Rattle.std.proofs.Common.{◌≡◌, ◌≢◌, ℕ, zero, suc, ◌+◌, ◌*◌, ◌/◌, ◌%◌, ◌^◌, ◌<◌, ◌≤◌, ◌⊎◌, ◌∙◌, true, List, eqb, eqb-true, eq-eqb, length, get_or, set, inl, inr, arith, subst, sym, refl, ap, get_or-set_same, get_or-set_other, w64}
+use Rattle.std.proofs.Common.{◌≡◌, ◌≢◌, ℕ, zero, suc, ◌+◌, ◌*◌, ◌/◌, ◌%◌, ◌^◌, ◌<◌, ◌≤◌, ◌⊎◌, ◌∙◌, true, List, eqb, eqb-true, eq-eqb, length, get_or, set, inl, inr, arith, sym, refl, ap, get_or-set_same, get_or-set_other, w64}
 use Rattle.std.specs.Prelude.{◌↔◌, bit_or, bit_and, replicate}
 use Rattle.std.specs.Int.{bit_at}
 use Rattle.std.proofs.lemmas.Bool.{cases_eq, cases_lt}
@@ -135,8 +135,8 @@ added points width words table a b small fit =
     let own = place-within points width words table a b small fit in
     exactly-shown points width words (with_bit width words a b) (λ x y. (x ≡ a) × (y ≡ b))
     (λ x y row column.
-        let bit = with_bit-bit width words a b x y (place-within points width words table x y row column).1 own.1 own.0 in
-        bits_tests width words (with_bit width words a b) x y ((x ≡ a) × (y ≡ b)) bit)
+    let bit = with_bit-bit width words a b x y (place-within points width words table x y row column).1 own.1 own.0 in
+    bits_tests width words (with_bit width words a b) x y ((x ≡ a) × (y ≡ b)) bit)
     (λ x y e. let f = e.0 in let g = e.1 in (omega arith, omega arith))
 
 -- the words after a join of rows
@@ -170,13 +170,13 @@ pub joined-rows : (points width : ℕ) (old new : List ℕ) → IsTable points w
 joined-rows points width old new table into from small fit rows =
     exactly-shown points width old new (λ x y. (x ≡ into) × Has (shown points width old) from y)
     (λ x y row column.
-        let bit = joined-bit width into from old new rows x y (place-within points width old table x y row column).1 in
-        let has = has-shown points width old from y fit column in
-        let one = bit-one old width from y in
-        bits_tests width old new x y ((x ≡ into) × Has (shown points width old) from y) (
-          λ h. elim (bit.0 h) [ inl r ↦ inl r | inr t ↦ inr (t.0, has.1 (one.1 t.1)) ],
-          λ h. bit.1 (elim h [ inl r ↦ inl r | inr t ↦ inr (t.0, one.0 (has.0 t.1)) ]),
-        ))
+    let bit = joined-bit width into from old new rows x y (place-within points width old table x y row column).1 in
+    let has = has-shown points width old from y fit column in
+    let one = bit-one old width from y in
+    bits_tests width old new x y ((x ≡ into) × Has (shown points width old) from y) (
+      λ h. elim (bit.0 h) [ inl r ↦ inl r | inr t ↦ inr (t.0, has.1 (one.1 t.1)) ],
+      λ h. bit.1 (elim h [ inl r ↦ inl r | inr t ↦ inr (t.0, one.0 (has.0 t.1)) ]),
+    ))
     (λ x y t. (let e = t.0 in omega arith, (within-shown points width old from y t.1).1))
 
 -- one word more of a join of rows

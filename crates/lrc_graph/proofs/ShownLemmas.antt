@@ -1,12 +1,10 @@
 -- Which pairs the words of a table have.
-use Rattle.std.proofs.Common.{◌≡◌, ◌≢◌, ℕ, zero, suc, ◌+◌, ◌*◌, ◌/◌, ◌%◌, ◌^◌, ◌<◌, ◌≤◌, ◌⊎◌, ◌∙◌, Bool, true, false, List, [], ◌∷◌, length, get_or, set, eqb, inl, inr, arith, subst, sym, refl, ap, eq-eqb, eqb-true, get_or-set_same, get_or-set_other, w64}
-use Rattle.std.specs.Prelude.{◌↔◌, bit_or, max}
+use Rattle.std.proofs.Common.{◌≡◌, ℕ, zero, suc, ◌+◌, ◌*◌, ◌/◌, ◌%◌, ◌<◌, ◌≤◌, ◌∙◌, true, false, List, [], get_or, inl, inr, arith, sym, refl, ap, eq-eqb, eqb-true}
+use Rattle.std.specs.Prelude.{◌↔◌}
 use Rattle.std.specs.Int.{bit_at}
-use Rattle.std.proofs.lemmas.Bool.{cases_eq, cases_lt}
-use Rattle.std.proofs.lemmas.Nat.{same_from_place, mul-add-lt}
-use Rattle.std.proofs.lemmas.Nat.Bits.{bit_at_or, bit_at-lt, bit_at-zero, bit_at_set_same, bit_at_set_other}
-use Rattle.lrc_graph.specs.Pairs.{Pairs, paired, Has, HasExactly, With}
-use Rattle.lrc_graph.specs.Shown.{values, bit_of, shown, IsTable}
+use Rattle.std.proofs.lemmas.Bool.{cases_lt}
+use Rattle.lrc_graph.specs.Pairs.{paired, Has}
+use Rattle.lrc_graph.specs.Shown.{values, bit_of, shown}
 
 values-at : {X : Type 0} (f : ℕ → X) (n k : ℕ) (d : X) → k < n → get_or (values f n) k d ≡ f k
 values-at f zero k d small = absurd (omega arith)

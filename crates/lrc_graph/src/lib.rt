@@ -6,5 +6,7 @@
 
 mod relation;
 mod rows;
+#[cfg(test)]
+mod tests;
 
 pub use relation::Relation;

@@ -79,6 +79,7 @@ impl Relation {
     pub fn close(&mut self)
         ensures points { self.new.points ≡ self.old.points }
         ensures pairs { HasExactly self.new (Path (Has self.old)) }
+        ensures closed { IsTransitive (Has self.new) }
     {
         'points: for via in 0..self.points() {
             self.shorten(via);
@@ -93,6 +94,7 @@ impl Relation {
         ensures new { IsTrue result ↔ (¬ Has self.old a b) }
         ensures points { self.new.points ≡ self.old.points }
         ensures pairs { HasExactly self.new (Path (With (Has self.old) a b)) }
+        ensures closed { IsTransitive (Has self.new) }
     {
         if self.has(a, b) {
             return false;

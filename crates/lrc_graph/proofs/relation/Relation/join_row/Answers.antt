@@ -1,4 +1,4 @@
-use Rattle.std.proofs.Common.{◌≡◌, ℕ, ◌<◌, ◌≤◌, ◌+◌, ◌*◌, ◌⊎◌, ◌∙◌, ap, arith, sym, subst, length, take, drop, ◌++◌, List, take_at}
+use Rattle.std.proofs.Common.{◌≡◌, ◌⊎◌, ◌∙◌, ap, arith, sym, subst, length, take, drop, ◌++◌, take_at}
 use Rattle.lrc_graph.specs.Pairs.{Has, HasExactly}
 use Rattle.lrc_graph.specs.Shown.{shown}
 use Rattle.lrc_graph.proofs.ShownLemmas.{points-shown}

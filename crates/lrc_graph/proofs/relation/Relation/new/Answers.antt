@@ -1,4 +1,4 @@
-use Rattle.std.proofs.Common.{◌≡◌, ℕ, ◌*◌, List, sym, subst}
+use Rattle.std.proofs.Common.{◌≡◌, ℕ, ◌*◌, sym, subst}
 use Rattle.std.specs.Prelude.{replicate}
 use Rattle.lrc_graph.specs.Pairs.{Has}
 use Rattle.lrc_graph.specs.Shown.{shown}

@@ -1,4 +1,4 @@
-use Rattle.std.proofs.Common.{◌≡◌, ℕ, ◌<◌, ◌∙◌, ap, sym, subst}
+use Rattle.std.proofs.Common.{ℕ, ◌<◌, ◌∙◌, ap, sym, subst}
 use Rattle.lrc_graph.specs.Pairs.{Has}
 use Rattle.lrc_graph.proofs.ShownLemmas.{points-shown, within-shown}
 use Rattle.lrc_graph.proofs.relation.Relation.points.Goals as goal
