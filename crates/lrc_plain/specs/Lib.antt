@@ -1,2 +1,4 @@
 pub mod Home
 pub mod Chains
+pub mod Rows
+pub mod Shelf

@@ -1,4 +1,5 @@
-ghost use Rattle.std.specs.Prelude.{◌≡◌, ◌+◌, ◌<◌, ◌≤◌, ℕ, length, MatchOption};
+ghost use Rattle.std.specs.Prelude.{◌≡◌, ◌+◌, ◌<◌, ◌≤◌, ◌^◌, ◌++◌, ◌∷◌, [], ℕ, length, MatchOption, vec_len, vec_capacity};
+ghost use Rattle.lrc_plain.specs.declared.chains.Row.{Row};
 ghost use Rattle.lrc_plain.specs.Chains.{IsChained, IsHeaded, IsAt};
 
 use crate::homes::home;
@@ -27,4 +28,34 @@ pub fn find(rows: &[Row], heads: &[u32], cell: Cell) -> Option<Handle>
         place = row.earlier;
     }
     None
+}
+
+/// Puts a row behind the others, where there is room, and names it.
+pub fn link(rows: &mut Vec<Row>, heads: &mut [u32], cell: Cell) -> Handle
+    requires some { 0 < length heads.old }
+    requires room { vec_len rows.old < vec_capacity rows.old }
+    requires limit { vec_len rows.old < 2 ^ 24 }
+    requires chained { IsChained rows.old.items (length heads.old) }
+    requires headed { IsHeaded rows.old.items heads.old }
+    ensures row { (row : Row) × (row.cell ≡ cell) × (rows.new.items ≡ rows.old.items ++ row ∷ []) }
+    ensures chained { IsChained rows.new.items (length heads.new) }
+    ensures headed { IsHeaded rows.new.items heads.new }
+    ensures room { vec_capacity rows.old ≤ vec_capacity rows.new }
+    ensures handle { result.0 ≡ vec_len rows.old + 1 }
+{
+    let bucket = home(cell, heads.len());
+    let place = rows.len() as u32 + 1;
+    let earlier = heads[bucket];
+    heads[bucket] = place;
+    append(rows, Row { cell, earlier });
+    Handle(place)
+}
+
+/// Puts a row behind the others, where there is room.
+fn append(rows: &mut Vec<Row>, row: Row)
+    requires { vec_len rows.old < vec_capacity rows.old }
+    ensures row { rows.new.items ≡ rows.old.items ++ row ∷ [] }
+    ensures room { vec_capacity rows.old ≤ vec_capacity rows.new }
+{
+    let _pushed = rows.push(row);
 }
