@@ -5,12 +5,8 @@ use Rattle.lrc_store.specs.declared.cells.Cell.{Cell}
 use Rattle.lrc_store.specs.declared.cells.Cell.TheVariants as cell
 use Rattle.lrc_plain.specs.declared.chains.Row.{Row}
 use Rattle.lrc_plain.specs.declared.rows.Rows.TheInside.{Inside}
-use Rattle.lrc_plain.specs.Shelf.{Shelf}
+use Rattle.lrc_plain.specs.Shelf.{Shelf, at}
 use Rattle.lrc_plain.specs.Chains.{row_at, IsChained, IsHeaded}
-
--- the cell that a handle stands for: nil, or that of the row before it
-abbrev pub at : List CellTree → ℕ → CellTree
-at cells handle = slice_index_or (nil ∷ cells) handle nil
 
 -- the cell of this outermost form
 abbrev pub whole : List CellTree → Cell → CellTree
@@ -35,6 +31,12 @@ pub record IsKept (cells : List CellTree) (rows : List Row) : Type 0 where
   pub sides : (i : ℕ) → i < length rows → IsFor i (row_at rows i).cell
   pub meant : (i : ℕ) → i < length rows → at cells (suc i) ≡ whole cells (row_at rows i).cell
   pub distinct : (i j : ℕ) → i ≤ length cells → j ≤ length cells → at cells i ≡ at cells j → i ≡ j
+
+-- the handles of the form are at most this one
+abbrev pub IsOver : ℕ → Cell → Type 0
+IsOver last cell.Nil = Unit {0}
+IsOver last (cell.Number value) = Unit {0}
+IsOver last (cell.Pair tag left right) = (left.0 ≤ last) × (right.0 ≤ last)
 
 -- the rows as callers see them
 abbrev pub shelf_of : Inside → Shelf

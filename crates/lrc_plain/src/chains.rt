@@ -31,15 +31,16 @@ pub fn find(rows: &[Row], heads: &[u32], cell: Cell) -> Option<Handle>
 }
 
 /// Puts a row behind the others, where there is room, and names it.
-pub fn link(rows: &mut Vec<Row>, heads: &mut [u32], cell: Cell) -> Handle
-    requires some { 0 < length heads.old }
+pub fn link(rows: &mut Vec<Row>, heads: &mut Vec<u32>, cell: Cell) -> Handle
+    requires some { 0 < length heads.old.items }
     requires room { vec_len rows.old < vec_capacity rows.old }
     requires limit { vec_len rows.old < 2 ^ 24 }
-    requires chained { IsChained rows.old.items (length heads.old) }
-    requires headed { IsHeaded rows.old.items heads.old }
+    requires chained { IsChained rows.old.items (length heads.old.items) }
+    requires headed { IsHeaded rows.old.items heads.old.items }
     ensures row { (row : Row) × (row.cell ≡ cell) × (rows.new.items ≡ rows.old.items ++ row ∷ []) }
-    ensures chained { IsChained rows.new.items (length heads.new) }
-    ensures headed { IsHeaded rows.new.items heads.new }
+    ensures buckets { length heads.new.items ≡ length heads.old.items }
+    ensures chained { IsChained rows.new.items (length heads.new.items) }
+    ensures headed { IsHeaded rows.new.items heads.new.items }
     ensures room { vec_capacity rows.old ≤ vec_capacity rows.new }
     ensures handle { result.0 ≡ vec_len rows.old + 1 }
 {
