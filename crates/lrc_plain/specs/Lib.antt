@@ -2,3 +2,4 @@ pub mod Home
 pub mod Chains
 pub mod Rows
 pub mod Shelf
+pub mod Plain

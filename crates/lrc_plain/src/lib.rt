@@ -3,4 +3,7 @@
 
 mod chains;
 mod homes;
+mod plain;
 mod rows;
+
+pub use plain::PlainStore;
