@@ -1,3 +1,4 @@
 pub mod RowLemmas
 pub mod Lists
 pub mod Standings
+pub mod Calls

@@ -1,5 +1,5 @@
 -- Rows of cells, and one row more.
-use Rattle.std.proofs.Common.{◌≡◌, ◌⊎◌, inl, inr, ◌≢◌, ℕ, ◌+◌, ◌<◌, ◌≤◌, List, [], ◌∷◌, ◌++◌, length, get_or, refl, sym, ◌∙◌, ap, subst, suc, zero, arith, length-append, append_assoc}
+use Rattle.std.proofs.Common.{◌≡◌, ◌⊎◌, inl, inr, ◌≢◌, ℕ, ◌+◌, ◌<◌, ◌≤◌, ◌^◌, List, [], ◌∷◌, ◌++◌, length, get_or, refl, sym, ◌∙◌, ap, subst, suc, zero, arith, length-append, append_assoc}
 use Rattle.std.proofs.Math.ListN.{get_or-append}
 use Rattle.std.proofs.Math.Seq.{get_or-append_seam}
 use Rattle.std.proofs.lemmas.Grind.{common_steps}
@@ -9,7 +9,7 @@ use Rattle.lrc_store.specs.declared.cells.Cell.TheVariants as cell
 use Rattle.lrc_store.specs.declared.cells.Handle.{Handle}
 use Rattle.lrc_plain.specs.declared.chains.Row.{Row}
 use Rattle.lrc_plain.specs.Chains.{row_at, IsAt}
-use Rattle.lrc_plain.specs.Shelf.{at, IsNamed, HasSides}
+use Rattle.lrc_plain.specs.Shelf.{Shelf, at, IsNamed, HasSides, IsShelf}
 use Rattle.lrc_plain.specs.Rows.{whole, IsFor, IsOver, cells_from, IsKept}
 
 -- one row more adds its cell
@@ -123,7 +123,7 @@ injective-push cells more inj none i j hi hj same = over (step i (length cells) 
   over (inr a) (inl b) = absurd (apart cells more j i none b a (sym same))
   over (inr a) (inr b) = omega arith
 
-below : (i n : ℕ) → i < suc n → (i < n) ⊎ (i ≡ n)
+pub below : (i n : ℕ) → i < suc n → (i < n) ⊎ (i ≡ n)
 below i n h = over (step (suc i) n (omega arith)) where
   over : (suc i ≤ n) ⊎ (suc i ≡ suc n) → (i < n) ⊎ (i ≡ n)
   over (inl l) = inl (omega arith)
@@ -177,3 +177,20 @@ kept-linked cells rows more form k view h none (row, same, push) =
 -- linked rows are one more
 pub within-linked : (rows more : List Row) (form : Cell) (quota : ℕ) → IsLinked rows more form → length rows < quota → length more ≤ quota
 within-linked rows more form quota (row, same, push) h = omega (arith, ap length push, length-append rows (row ∷ []))
+
+sides-whole : (cells : List CellTree) (form : Cell) → IsFor (length cells) form → HasSides cells (whole cells form)
+sides-whole cells cell.Nil h = absurd h
+sides-whole cells (cell.Number value) h = tt
+sides-whole cells (cell.Pair tag left right) h = ((left.0, h.0, refl), (right.0, h.1, refl))
+
+-- the cells of kept rows are a shelf
+pub shelf-indexed : (cells : List CellTree) (rows : List Row) (quota : ℕ) → quota ≤ 2 ^ 24 → length rows ≤ quota → IsKept cells rows →
+    (let s : Shelf = record { cells = cells; quota = quota } in IsShelf s)
+shelf-indexed cells rows quota limit within k = record {
+  limit = limit;
+  within = omega (arith, k.same_length);
+  distinct = k.distinct;
+  sides = λ i h. let l : i < length rows = omega (arith, h, k.same_length) in
+    let P : CellTree → Type 0 = HasSides cells in
+    subst P (sym (k.meant i l)) (sides-whole cells (row_at rows i).cell (IsFor-wider i _ _ (omega (arith, h)) (k.sides i l)))
+}

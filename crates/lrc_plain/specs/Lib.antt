@@ -3,3 +3,4 @@ pub mod Chains
 pub mod Rows
 pub mod Shelf
 pub mod Plain
+pub mod Recalled

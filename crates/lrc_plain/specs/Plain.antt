@@ -1,9 +1,9 @@
 -- A store of one owner: what it keeps, and what it stands for.
-use Rattle.std.specs.Prelude.{ℕ, ◌≡◌, ◌≢◌, ◌<◌, ◌≤◌, List, [], ◌∷◌, length, Option, Some, None, false, slice_get, slice_index, suc, zero, refl}
+use Rattle.std.specs.Prelude.{ℕ, ◌≡◌, ◌≢◌, ◌<◌, ◌≤◌, List, [], ◌∷◌, length, Contains, Option, Some, None, false, slice_get, slice_index, suc, zero, refl}
 use Rattle.std.specs.Coded.{Coded, code_by, coded_ℕ, coded_list, coded×}
 use Rattle.lrc_store.specs.Cells.{CellTree, nil, IsWithin}
 use Rattle.lrc_store.specs.Standing.{Standing}
-use Rattle.lrc_plain.specs.Shelf.{Shelf, coded_shelf, at}
+use Rattle.lrc_plain.specs.Shelf.{Shelf, IsShelf, coded_shelf, at}
 
 -- the rows, for each row the handle of the result that is remembered for its cell, or 0, the misses, and the meaning
 pub record Plain (M : Type 0) : Type 0 where
@@ -42,12 +42,13 @@ abbrev pub outcome : List ℕ → ℕ → ℕ
 outcome outcomes handle = slice_index (0 ∷ outcomes) handle
 
 -- what is kept of calls: for each row a result that may be remembered, or 0
-pub record IsMemo (allows : CellTree → CellTree → Type 0) (reach : CellTree → CellTree → List CellTree) (shelf : Shelf) (outcomes : List ℕ) : Type 0 where
-  pub room : length outcomes ≡ shelf.quota
-  pub rest : (i : ℕ) → length shelf.cells ≤ i → i < length outcomes → slice_index outcomes i ≡ 0
-  pub known : (i : ℕ) → i < length outcomes → slice_index outcomes i ≤ length shelf.cells
-  pub allowed : (handle : ℕ) → handle ≤ length shelf.cells → outcome outcomes handle ≢ 0 → allows (at shelf.cells handle) (at shelf.cells (outcome outcomes handle))
-  pub reached : (handle : ℕ) → handle ≤ length shelf.cells → outcome outcomes handle ≢ 0 → IsWithin (reach (at shelf.cells handle) (at shelf.cells (outcome outcomes handle))) shelf.cells
+pub record IsMemo (allows : CellTree → CellTree → Type 0) (reach : CellTree → CellTree → List CellTree) (rows : Shelf) (outcomes : List ℕ) : Type 0 where
+  pub shelf : IsShelf rows
+  pub room : length outcomes ≡ rows.quota
+  pub rest : (i : ℕ) → length rows.cells ≤ i → i < length outcomes → slice_index outcomes i ≡ 0
+  pub known : (i : ℕ) → i < length outcomes → slice_index outcomes i ≤ length rows.cells
+  pub allowed : (handle : ℕ) → handle ≤ length rows.cells → outcome outcomes handle ≢ 0 → allows (at rows.cells handle) (at rows.cells (outcome outcomes handle))
+  pub reached : (handle : ℕ) → handle ≤ length rows.cells → outcome outcomes handle ≢ 0 → IsWithin (reach (at rows.cells handle) (at rows.cells (outcome outcomes handle))) rows.cells
 
 -- nothing was made, remembered or missed yet, and there may be this many rows
 pub record IsNew (s : Standing) (rows : ℕ) : Type 0 where
@@ -55,3 +56,8 @@ pub record IsNew (s : Standing) (rows : ℕ) : Type 0 where
   pub memo : s.memo ≡ Some []
   pub missed : s.missed ≡ 0
   pub quota : s.quota ≡ rows
+
+-- the cell is in no row, and all rows are used
+pub record IsFullAt (s : Shelf) (cell : CellTree) : Type 0 where
+  pub absent : ¬ Contains s.cells cell
+  pub used : length s.cells ≡ s.quota

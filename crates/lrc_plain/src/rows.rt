@@ -39,7 +39,7 @@ impl Rows {
     pub fn new(alloc: Global, quota: u32) -> Result<Rows, AllocError>
         requires some { 1 ≤ quota }
         requires limit { quota ≤ 2 ^ 24 }
-        ensures { IfOk result (λ rows. (rows.cells ≡ []) × (rows.quota ≡ quota)) }
+        ensures { IfOk result (λ rows. (rows.cells ≡ []) × (rows.quota ≡ quota) × IsShelf rows) }
     {
         Ok(Rows {
             rows: Vec::with_capacity(alloc, quota as usize)?,
@@ -84,6 +84,7 @@ impl Rows {
     pub fn put(&mut self, cell: Cell) -> Result<Handle, Full>
         requires { IsFor (length self.old.cells) cell }
         ensures quota { self.new.quota ≡ self.old.quota }
+        ensures sound { IsShelf self.new }
         ensures ok { IfOk result (λ handle. IsPlaced self.old self.new (whole self.old.cells cell) handle.0) }
         ensures full { OnErr result (IsFullOf self.old self.new (whole self.old.cells cell)) }
     {
@@ -97,7 +98,8 @@ impl Rows {
     /// The handle of a cell that is in a row.
     fn find(&self, cell: Cell) -> Option<Handle>
         requires { IsFor (length self.now.cells) cell }
-        ensures { MatchOption result (¬ IsNamed self.now.cells (whole self.now.cells cell)) (λ handle. (handle.0 ≤ length self.now.cells) × (at self.now.cells handle.0 ≡ whole self.now.cells cell)) }
+        ensures sound { IsShelf self.now }
+        ensures found { MatchOption result (¬ IsNamed self.now.cells (whole self.now.cells cell)) (λ handle. (handle.0 ≤ length self.now.cells) × (at self.now.cells handle.0 ≡ whole self.now.cells cell)) }
     {
         find(&self.rows, &self.heads, cell)
     }
@@ -109,6 +111,7 @@ impl Rows {
         requires room { length self.old.cells < self.old.quota }
         ensures cells { self.new.cells ≡ self.old.cells ++ whole self.old.cells cell ∷ [] }
         ensures quota { self.new.quota ≡ self.old.quota }
+        ensures sound { IsShelf self.new }
         ensures handle { result.0 ≡ length self.old.cells + 1 }
     {
         link(&mut self.rows, &mut self.heads, cell)

@@ -2,7 +2,7 @@ use Rattle.std.proofs.Common.{◌≡◌, List, [], ◌∷◌, ◌++◌, ap, arit
 use Rattle.lrc_store.specs.Cells.{CellTree}
 use Rattle.lrc_plain.specs.Shelf.{Shelf}
 use Rattle.lrc_plain.specs.Rows.{whole, cells_from}
-use Rattle.lrc_plain.proofs.RowLemmas.{within-linked, kept-linked, cells-linked}
+use Rattle.lrc_plain.proofs.RowLemmas.{shelf-indexed, within-linked, kept-linked, cells-linked}
 use Rattle.lrc_plain.proofs.rows.Rows.add.Goals as goal
 
 pub invariant_of-self : goal.invariant_of-self
@@ -24,3 +24,8 @@ returns-clause-cells c =
     let view : cells_from [] c.self.inside.rows.items ≡ c.args.self.now.cells = ap (λ (s : Shelf). s.cells) c.self.view_is in
     cells-linked c.self.inside.rows.items c.link.new.rows.items c.args.cell c.link.ensures.row
     ∙ ap (λ (cells : List CellTree). cells ++ whole cells c.args.cell ∷ []) view
+
+pub returns-clause-sound : goal.returns-clause-sound
+returns-clause-sound c =
+    let k = invariant_of-self c in
+    shelf-indexed _ _ _ k.limit k.within k.kept
