@@ -2,3 +2,4 @@ pub mod RowLemmas
 pub mod Lists
 pub mod Standings
 pub mod Calls
+pub mod Memo
