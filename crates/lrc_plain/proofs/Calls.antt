@@ -1,9 +1,9 @@
 -- What the calls of a store of one owner do to what it stands for.
-use Rattle.std.proofs.Common.{◌≡◌, ◌≢◌, ◌⊎◌, inl, inr, ℕ, ◌+◌, ◌<◌, ◌≤◌, List, [], ◌∷◌, ◌++◌, length, get_or, refl, sym, ◌∙◌, ap, subst, suc, zero, arith, length-append, Option, Some, None, IsSome, Contains, Bool}
+use Rattle.std.proofs.Common.{◌≡◌, ◌≢◌, ◌⊎◌, inl, inr, ℕ, ◌+◌, ◌<◌, ◌≤◌, List, [], ◌∷◌, ◌++◌, length, get_or, refl, sym, ◌∙◌, ap, subst, suc, zero, arith, length-append, IsSome, Contains, Bool}
 use Rattle.std.specs.Prelude.{slice_get, unwrap_or, Result, Ok, Err, IfOk, OnErr, IsErr, IsTrue, ◌↔◌}
-use Rattle.lrc_store.specs.Cells.{CellTree, nil, number, pair, IsWithin}
-use Rattle.lrc_store.specs.Standing.{Standing, IsKnown, meant, IsRemembered}
-use Rattle.lrc_store.specs.Words.{Puts, Shows, Tells, Finds, Misses, Gains}
+use Rattle.lrc_store.specs.Cells.{CellTree, nil, pair, IsWithin}
+use Rattle.lrc_store.specs.Standing.{IsRemembered}
+use Rattle.lrc_store.specs.Words.{Puts, Shows}
 use Rattle.lrc_store.specs.declared.cells.Cell.{Cell}
 use Rattle.lrc_store.specs.declared.cells.Cell.TheVariants as cell
 use Rattle.lrc_store.specs.declared.cells.Handle.{Handle}
@@ -13,7 +13,7 @@ use Rattle.lrc_plain.specs.Rows.{whole, IsFor, IsOver}
 use Rattle.lrc_plain.specs.Plain.{Plain, pairs, standing, outcome, IsMemo, IsFullAt}
 use Rattle.lrc_plain.proofs.RowLemmas.{at-push, below, whole-not_nil}
 use Rattle.lrc_plain.proofs.Lists.{contains-left, named-contained, named-cases, row-of_pair, pair-of_row}
-use Rattle.lrc_plain.proofs.Standings.{IsGrown, known-within, within-known, meant-at, stands-at, adds, tells, full}
+use Rattle.lrc_plain.proofs.Standings.{IsGrown, known-within, within-known, meant-at, adds, tells, full}
 
 -- two known handles stand for equal cells exactly where they are equal
 pub same-cells : (s : Shelf) (left right : Handle) (b : Bool) → IsShelf s → IsSome (slice_get (nil ∷ s.cells) left.0) → IsSome (slice_get (nil ∷ s.cells) right.0) →
@@ -21,9 +21,10 @@ pub same-cells : (s : Shelf) (left right : Handle) (b : Bool) → IsShelf s → 
 same-cells s left right b k l r e =
     let a = known-within s.cells left.0 l in
     let c = known-within s.cells right.0 r in
-    let handle : ℕ → Handle = λ n. record { 0 = n } in
-    ((λ t. ap (λ (h : Handle). unwrap_or (slice_get (nil ∷ s.cells) h.0) nil) (e.0 t)),
-     (λ m. e.1 (ap handle (k.distinct left.0 right.0 a c (sym (meant-at s.cells left.0 a) ∙ m ∙ meant-at s.cells right.0 c)))))
+    let handle : ℕ → Handle = λ n. record { 0 = n } in (
+      (λ t. ap (λ (h : Handle). unwrap_or (slice_get (nil ∷ s.cells) h.0) nil) (e.0 t)),
+      (λ m. e.1 (ap handle (k.distinct left.0 right.0 a c (sym (meant-at s.cells left.0 a) ∙ m ∙ meant-at s.cells right.0 c)))),
+    )
 
 pair_of : (tag : ℕ) (a b c d : CellTree) → a ≡ b → c ≡ d → pair tag a c ≡ pair tag b d
 pair_of tag a b c d e f = cc
@@ -59,12 +60,12 @@ pub puts : (s t : Shelf) (c : CellTree) (outcomes : List ℕ) (missed : ℕ) (an
 puts s t c outcomes missed (Ok handle) rest known quota k ok err = record {
   adds = adds s t c outcomes missed rest known quota (grown s t c (Ok handle) ok err);
   ok = tells t handle.0 c outcomes missed k ok.within ok.stands;
-  full = err
+  full = err;
 }
 puts s t c outcomes missed (Err e) rest known quota k ok err = record {
   adds = adds s t c outcomes missed rest known quota (inl err.cells);
   ok = ok;
-  full = full t c outcomes missed (let P : List CellTree → Type 0 = λ cells. ¬ IsNamed cells c in subst P (sym err.cells) err.unnamed) (ap length err.cells ∙ err.used ∙ sym quota)
+  full = full t c outcomes missed (let P : List CellTree → Type 0 = λ cells. ¬ IsNamed cells c in subst P (sym err.cells) err.unnamed) (ap length err.cells ∙ err.used ∙ sym quota);
 }
 
 -- the same, seen through what the fields stand for
@@ -99,19 +100,19 @@ exact-seen {M} v now t form n answer e h ok err =
 memo-more : (allows : CellTree → CellTree → Type 0) (reach : CellTree → CellTree → List CellTree) (s t : Shelf) (c : CellTree) (outcomes : List ℕ) →
     IsMemo allows reach s outcomes → IsShelf t → t.quota ≡ s.quota → t.cells ≡ s.cells ++ c ∷ [] → IsMemo allows reach t outcomes
 memo-more allows reach s t c outcomes m k quota e = record {
-    shelf = k;
-    room = m.room ∙ sym quota;
-    rest = λ i h l. m.rest i (omega (arith, h, more)) l;
-    known = λ i l. omega (arith, m.known i l, more);
-    allowed = λ handle h n. let l = within handle h n in
+  shelf = k;
+  room = m.room ∙ sym quota;
+  rest = λ i h l. m.rest i (omega (arith, h, more)) l;
+  known = λ i l. omega (arith, m.known i l, more);
+  allowed = λ handle h n. let l = within handle h n in
       let o = outcome-known handle l in
       subst (λ (x : CellTree). allows x (at t.cells (outcome outcomes handle))) (sym (stays handle l)) (subst (λ (x : CellTree). allows (at s.cells handle) x) (sym (stays (outcome outcomes handle) o)) (m.allowed handle l n));
-    reached = λ handle h n. let l = within handle h n in
+  reached = λ handle h n. let l = within handle h n in
       let o = outcome-known handle l in
       subst (λ (x : CellTree). IsWithin (reach x (at t.cells (outcome outcomes handle))) t.cells) (sym (stays handle l))
-        (subst (λ (x : CellTree). IsWithin (reach (at s.cells handle) x) t.cells) (sym (stays (outcome outcomes handle) o))
-          (λ cell found. kept cell (m.reached handle l n cell found)))
-  } where
+      (subst (λ (x : CellTree). IsWithin (reach (at s.cells handle) x) t.cells) (sym (stays (outcome outcomes handle) o))
+      (λ cell found. kept cell (m.reached handle l n cell found)));
+} where
   more : length t.cells ≡ length s.cells + 1
   more = ap length e ∙ length-append s.cells (c ∷ [])
 
@@ -138,8 +139,8 @@ memo-grown allows reach s t c outcomes m k quota (inr e) = memo-more allows reac
 memo-grown allows reach s t c outcomes m k quota (inl e) =
     let same : s ≡ t = shelf-of s t (sym e) (sym quota) in
     let P : Shelf → Type 0 = λ x. IsMemo allows reach x outcomes in subst P same m where
-  shelf-of : (a b : Shelf) → a.cells ≡ b.cells → a.quota ≡ b.quota → a ≡ b
-  shelf-of a b f g = let make : List CellTree → ℕ → Shelf = λ c q. record { cells = c; quota = q } in ap (λ c. make c a.quota) f ∙ ap (make b.cells) g
+      shelf-of : (a b : Shelf) → a.cells ≡ b.cells → a.quota ≡ b.quota → a ≡ b
+      shelf-of a b f g = let make : List CellTree → ℕ → Shelf = λ c q. record { cells = c; quota = q } in ap (λ c. make c a.quota) f ∙ ap (make b.cells) g
 
 -- a call with a result is in the memo with it
 pub remembered : (s : Shelf) (outcomes : List ℕ) (call : ℕ) → length outcomes ≡ s.quota → IsShelf s → call ≤ length s.cells → outcome outcomes call ≢ 0 →

@@ -1,8 +1,8 @@
 -- Lists of cells by place, and the pairs of calls and results.
-use Rattle.std.proofs.Common.{◌≡◌, ◌≢◌, ◌⊎◌, inl, inr, ℕ, ◌+◌, ◌<◌, ◌≤◌, List, [], ◌∷◌, ◌++◌, length, get_or, refl, sym, ◌∙◌, ap, subst, suc, zero, arith, length-append, Option, Some, None, Contains}
+use Rattle.std.proofs.Common.{◌≡◌, ◌≢◌, ◌⊎◌, inl, inr, ℕ, ◌<◌, ◌≤◌, List, [], ◌∷◌, ◌++◌, length, get_or, refl, sym, ◌∙◌, ap, subst, suc, zero, arith, length-append, Some, Contains}
 use Rattle.std.specs.Prelude.{slice_get}
-use Rattle.lrc_store.specs.Cells.{CellTree, nil, number, pair, parts, HoldsParts, IsClosed}
-use Rattle.lrc_store.specs.Standing.{HasNoRepeats, IsRemembered, IsMap}
+use Rattle.lrc_store.specs.Cells.{CellTree, nil, number, pair, parts, HoldsParts}
+use Rattle.lrc_store.specs.Standing.{HasNoRepeats}
 use Rattle.lrc_plain.specs.Shelf.{Shelf, at, IsNamed, HasSides, IsShelf}
 use Rattle.lrc_plain.specs.Plain.{pairs, outcome}
 use Rattle.lrc_plain.proofs.RowLemmas.{at-push}
@@ -63,18 +63,18 @@ parts-held s k (number v) n part (zero, h, e) = only (named-cases s.cells (numbe
 parts-held s k (number v) n part (suc i, h, e) = absurd (omega arith)
 parts-held s k (pair tag left right) n part found =
     over (named-cases s.cells (pair tag left right) n) found (λ side. parts-held s k left side part) (λ side. parts-held s k right side part) where
-  behind : HasSides s.cells (pair tag left right) → Contains (parts left) part ⊎ Contains (parts right) part →
-      (IsNamed s.cells left → Contains (parts left) part → Contains s.cells part) → (IsNamed s.cells right → Contains (parts right) part → Contains s.cells part) →
-      Contains s.cells part
-  behind sides (inl l) lefts rights = lefts sides.0 l
-  behind sides (inr r) lefts rights = rights sides.1 r
+      behind : HasSides s.cells (pair tag left right) → Contains (parts left) part ⊎ Contains (parts right) part →
+          (IsNamed s.cells left → Contains (parts left) part → Contains s.cells part) → (IsNamed s.cells right → Contains (parts right) part → Contains s.cells part) →
+          Contains s.cells part
+      behind sides (inl l) lefts rights = lefts sides.0 l
+      behind sides (inr r) lefts rights = rights sides.1 r
 
-  over : (nil ≡ pair tag left right) ⊎ Contains s.cells (pair tag left right) → Contains (parts (pair tag left right)) part →
-      (IsNamed s.cells left → Contains (parts left) part → Contains s.cells part) → (IsNamed s.cells right → Contains (parts right) part → Contains s.cells part) →
-      Contains s.cells part
-  over (inl never) f lefts rights = cc
-  over (inr held) (zero, h, e) lefts rights = let P : CellTree → Type 0 = Contains s.cells in subst P e held
-  over (inr held) (suc i, h, e) lefts rights = behind (sides-at s k (pair tag left right) held) (contains-split (parts left) (parts right) part (i, omega (arith, h), e)) lefts rights
+      over : (nil ≡ pair tag left right) ⊎ Contains s.cells (pair tag left right) → Contains (parts (pair tag left right)) part →
+          (IsNamed s.cells left → Contains (parts left) part → Contains s.cells part) → (IsNamed s.cells right → Contains (parts right) part → Contains s.cells part) →
+          Contains s.cells part
+      over (inl never) f lefts rights = cc
+      over (inr held) (zero, h, e) lefts rights = let P : CellTree → Type 0 = Contains s.cells in subst P e held
+      over (inr held) (suc i, h, e) lefts rights = behind (sides-at s k (pair tag left right) held) (contains-split (parts left) (parts right) part (i, omega (arith, h), e)) lefts rights
 
 pub named-contained : (cells : List CellTree) (c : CellTree) → Contains cells c → IsNamed cells c
 named-contained cells c h = let p = at-contained cells c h in (suc p.0, omega (arith, p.1), p.2)
@@ -134,4 +134,4 @@ pairs-push all (c ∷ cells) more (zero ∷ outcomes) rest known =
     pairs-push all cells more outcomes (λ i h l. rest (suc i) (omega arith) (omega arith)) (λ i l. known (suc i) (omega arith))
 pairs-push all (c ∷ cells) more (suc handle ∷ outcomes) rest known =
     cons_pair c _ _ _ _ (at-push all more (suc handle) (known 0 (omega arith)))
-      (pairs-push all cells more outcomes (λ i h l. rest (suc i) (omega arith) (omega arith)) (λ i l. known (suc i) (omega arith)))
+    (pairs-push all cells more outcomes (λ i h l. rest (suc i) (omega arith) (omega arith)) (λ i l. known (suc i) (omega arith)))

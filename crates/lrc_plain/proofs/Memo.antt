@@ -1,5 +1,5 @@
 -- What is kept of calls: found again, and one result more.
-use Rattle.std.proofs.Common.{◌≡◌, ◌≢◌, ◌⊎◌, inl, inr, ℕ, ◌+◌, ◌-◌, ◌^◌, ◌<◌, ◌≤◌, List, [], ◌∷◌, ◌++◌, length, get_or, refl, sym, ◌∙◌, ap, subst, suc, zero, arith, length-append, Option, Some, None, IsSome, Contains}
+use Rattle.std.proofs.Common.{◌≡◌, ◌≢◌, ◌⊎◌, inl, inr, ℕ, ◌+◌, ◌-◌, ◌^◌, ◌<◌, ◌≤◌, List, [], ◌∷◌, ◌++◌, length, get_or, refl, sym, ◌∙◌, ap, subst, suc, zero, arith, IsSome, Contains}
 use Rattle.std.specs.Prelude.{slice_get, slice_set, unwrap_or, min}
 use Rattle.std.proofs.lemmas.List.{length-set, set-get_or, get_or-set_same, get_or-set_other}
 use Rattle.lrc_store.specs.Cells.{CellTree, nil, IsWithin}
@@ -29,7 +29,7 @@ finds-at allows reach s outcomes missed call handle m h e n =
       tells = tells s (outcome outcomes call) (at s.cells (outcome outcomes call)) outcomes missed m.shelf (outcome-within allows reach s outcomes call m h) refl;
       reached = m.reached call h n;
       remembered = remembered s outcomes call m.room m.shelf h n;
-      missed = refl
+      missed = refl;
     })
 
 -- a call that has a result is found
@@ -47,11 +47,11 @@ finds allows reach s outcomes missed call handle m known e n =
 pub misses : {M : Type 0} (v now : Plain M) (call value : ℕ) → v ≡ now → IsShelf now.shelf → IsSome (slice_get (nil ∷ now.shelf.cells) call) → outcome now.outcomes call ≡ 0 →
     value ≡ min (v.missed + 1) (2 ^ 64 - 1) → Misses (standing now.shelf now.outcomes now.missed) (standing v.shelf v.outcomes value) (meant_in now.shelf.cells call)
 misses {M} v now call value e k known z count = record {
-    missing = let h = known-within now.shelf.cells call known in
+  missing = let h = known-within now.shelf.cells call known in
       let P : CellTree → Type 0 = λ x. ¬ ((o : CellTree) × Contains (pairs now.shelf.cells now.shelf.cells now.outcomes) (x, o)) in
       subst P (sym (meant-at now.shelf.cells call h)) (missing now.shelf now.outcomes call k h z);
-    missed = count ∙ ap (λ (p : Plain M). min (p.missed + 1) (2 ^ 64 - 1)) e
-  }
+  missed = count ∙ ap (λ (p : Plain M). min (p.missed + 1) (2 ^ 64 - 1)) e;
+}
 
 decide : (a b : ℕ) → (a ≡ b) ⊎ (a ≢ b)
 decide zero zero = inl refl
@@ -74,13 +74,13 @@ pub record IsGiven (allows : CellTree → CellTree → Type 0) (reach : CellTree
 memo-set-suc : (allows : CellTree → CellTree → Type 0) (reach : CellTree → CellTree → List CellTree) (s : Shelf) (outcomes : List ℕ) (i handle : ℕ) →
     IsMemo allows reach s outcomes → IsGiven allows reach s (suc i) handle → IsMemo allows reach s (slice_set outcomes i handle)
 memo-set-suc allows reach s outcomes i handle m g = record {
-    shelf = m.shelf;
-    room = length-set outcomes i handle ∙ m.room;
-    rest = λ k h l. get_or-set_other outcomes i k handle 0 (λ e. omega (arith, g.call_known)) ∙ m.rest k h (omega (arith, length-set outcomes i handle));
-    known = λ k l. known k (decide k i) (omega (arith, length-set outcomes i handle));
-    allowed = λ k h n. allowed k h n;
-    reached = λ k h n. reached k h n
-  } where
+  shelf = m.shelf;
+  room = length-set outcomes i handle ∙ m.room;
+  rest = λ k h l. get_or-set_other outcomes i k handle 0 (λ e. omega (arith, g.call_known)) ∙ m.rest k h (omega (arith, length-set outcomes i handle));
+  known = λ k l. known k (decide k i) (omega (arith, length-set outcomes i handle));
+  allowed = λ k h n. allowed k h n;
+  reached = λ k h n. reached k h n;
+} where
   here : i < length outcomes
   here = omega (arith, g.call_known, m.room, m.shelf.within)
 
@@ -174,7 +174,7 @@ given-at allows reach s (suc i) (suc j) filled c h a r = record {
   call_known = c;
   handle_known = h;
   allowed = a;
-  reached = r
+  reached = r;
 }
 
 -- what a caller of remember shows, over the fields
@@ -188,7 +188,7 @@ given {M} allows reach v now call handle e filled kc kh a r =
     let h = known-within now.shelf.cells handle kh in
     let May : CellTree → CellTree → Type 0 = λ x y. allows now.meaning x y × IsWithin (reach now.meaning x y) now.shelf.cells in
     let may = subst (λ (x : CellTree). May x (at now.shelf.cells handle)) (meant-at now.shelf.cells call c)
-      (subst (λ (y : CellTree). May (meant_in now.shelf.cells call) y) (meant-at now.shelf.cells handle h) (a, r)) in
+    (subst (λ (y : CellTree). May (meant_in now.shelf.cells call) y) (meant-at now.shelf.cells handle h) (a, r)) in
     let P : Plain M → Type 0 = λ n. IsGiven (allows n.meaning) (reach n.meaning) n.shelf call handle in
     subst P (sym e) (given-at (allows now.meaning) (reach now.meaning) now.shelf call handle (filled now.meaning) c h may.0 may.1)
 
@@ -202,6 +202,6 @@ gains-seen {M} allows reach v now call handle e single m g =
     let after = pairs v.shelf.cells v.shelf.cells (slice_set v.outcomes (call - 1) handle) in
     let P : Plain M → Type 0 = λ n. Gains (pairs n.shelf.cells n.shelf.cells n.outcomes) after (meant_in n.shelf.cells call) (meant_in n.shelf.cells handle) in
     subst P e
-      (subst (λ (x : CellTree). Gains before after x (meant_in v.shelf.cells handle)) (sym (meant-at v.shelf.cells call g.call_known))
-        (subst (λ (y : CellTree). Gains before after (at v.shelf.cells call) y) (sym (meant-at v.shelf.cells handle g.handle_known))
-          (gains (allows v.meaning) (reach v.meaning) v.shelf v.outcomes call handle (single v.meaning) m g)))
+    (subst (λ (x : CellTree). Gains before after x (meant_in v.shelf.cells handle)) (sym (meant-at v.shelf.cells call g.call_known))
+    (subst (λ (y : CellTree). Gains before after (at v.shelf.cells call) y) (sym (meant-at v.shelf.cells handle g.handle_known))
+    (gains (allows v.meaning) (reach v.meaning) v.shelf v.outcomes call handle (single v.meaning) m g)))

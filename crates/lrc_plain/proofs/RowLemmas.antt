@@ -1,8 +1,7 @@
 -- Rows of cells, and one row more.
-use Rattle.std.proofs.Common.{◌≡◌, ◌⊎◌, inl, inr, ◌≢◌, ℕ, ◌+◌, ◌<◌, ◌≤◌, ◌^◌, List, [], ◌∷◌, ◌++◌, length, get_or, refl, sym, ◌∙◌, ap, subst, suc, zero, arith, length-append, append_assoc}
+use Rattle.std.proofs.Common.{◌≡◌, ◌⊎◌, inl, inr, ℕ, ◌<◌, ◌≤◌, ◌^◌, List, [], ◌∷◌, ◌++◌, length, refl, sym, ◌∙◌, ap, subst, suc, zero, arith, length-append}
 use Rattle.std.proofs.Math.ListN.{get_or-append}
 use Rattle.std.proofs.Math.Seq.{get_or-append_seam}
-use Rattle.std.proofs.lemmas.Grind.{common_steps}
 use Rattle.lrc_store.specs.Cells.{CellTree, nil, number, pair}
 use Rattle.lrc_store.specs.declared.cells.Cell.{Cell}
 use Rattle.lrc_store.specs.declared.cells.Cell.TheVariants as cell
@@ -133,11 +132,11 @@ below i n h = over (step (suc i) n (omega arith)) where
 pub kept-push : (cells : List CellTree) (rows : List Row) (row : Row) → IsKept cells rows → IsFor (length cells) row.cell →
     ((i : ℕ) → ¬ IsAt rows row.cell i) → IsKept (cells ++ whole cells row.cell ∷ []) (rows ++ row ∷ [])
 kept-push cells rows row k h none = record {
-    same_length = omega (arith, length-append cells (whole cells row.cell ∷ []), length-append rows (row ∷ []), k.same_length);
-    sides = λ i l. sides_over i (below i (length rows) (omega (arith, length-append rows (row ∷ []))));
-    meant = λ i l. meant_over i (below i (length rows) (omega (arith, length-append rows (row ∷ []))));
-    distinct = injective-push cells (whole cells row.cell) k.distinct (unnamed cells rows row.cell k h none)
-  } where
+  same_length = omega (arith, length-append cells (whole cells row.cell ∷ []), length-append rows (row ∷ []), k.same_length);
+  sides = λ i l. sides_over i (below i (length rows) (omega (arith, length-append rows (row ∷ []))));
+  meant = λ i l. meant_over i (below i (length rows) (omega (arith, length-append rows (row ∷ []))));
+  distinct = injective-push cells (whole cells row.cell) k.distinct (unnamed cells rows row.cell k h none);
+} where
   sides_over : (i : ℕ) → (i < length rows) ⊎ (i ≡ length rows) → IsFor i (row_at (rows ++ row ∷ []) i).cell
   sides_over i (inl l) = subst (λ r. IsFor i r.cell) (sym (row_at-push rows row i l)) (k.sides i l)
   sides_over i (inr e) = subst (λ n. IsFor n (row_at (rows ++ row ∷ []) n).cell) (sym e) (subst (λ r. IsFor (length rows) r.cell) (sym (row_at-last rows row)) (subst (λ n. IsFor n row.cell) k.same_length h))
@@ -167,12 +166,12 @@ pub kept-linked : (cells : List CellTree) (rows more : List Row) (form : Cell) �
 kept-linked cells rows more form k view h none (row, same, push) =
     let P : List Row → Type 0 = λ m. IsKept (cells_from [] m) m in
     subst P (sym push)
-      (let Q : List CellTree → Type 0 = λ c. IsKept c (rows ++ row ∷ []) in
-       subst Q (sym (cells_from-push [] rows row))
-         (kept-push (cells_from [] rows) rows row k
-           (let F : List CellTree → Type 0 = λ c. IsFor (length c) row.cell in subst F (sym view) (let G : Cell → Type 0 = λ f. IsFor (length cells) f in subst G (sym same) h))
-           (λ i l. none (let N : List CellTree → Type 0 = λ c. IsNamed c (whole c form) in subst N view
-             (suc i, omega (arith, l.0, k.same_length), named (cells_from [] rows) rows form i k (l.0, l.1 ∙ same))))))
+    (let Q : List CellTree → Type 0 = λ c. IsKept c (rows ++ row ∷ []) in
+    subst Q (sym (cells_from-push [] rows row))
+    (kept-push (cells_from [] rows) rows row k
+    (let F : List CellTree → Type 0 = λ c. IsFor (length c) row.cell in subst F (sym view) (let G : Cell → Type 0 = λ f. IsFor (length cells) f in subst G (sym same) h))
+    (λ i l. none (let N : List CellTree → Type 0 = λ c. IsNamed c (whole c form) in subst N view
+    (suc i, omega (arith, l.0, k.same_length), named (cells_from [] rows) rows form i k (l.0, l.1 ∙ same))))))
 
 -- linked rows are one more
 pub within-linked : (rows more : List Row) (form : Cell) (quota : ℕ) → IsLinked rows more form → length rows < quota → length more ≤ quota
@@ -191,6 +190,6 @@ shelf-indexed cells rows quota limit within k = record {
   within = omega (arith, k.same_length);
   distinct = k.distinct;
   sides = λ i h. let l : i < length rows = omega (arith, h, k.same_length) in
-    let P : CellTree → Type 0 = HasSides cells in
-    subst P (sym (k.meant i l)) (sides-whole cells (row_at rows i).cell (IsFor-wider i _ _ (omega (arith, h)) (k.sides i l)))
+      let P : CellTree → Type 0 = HasSides cells in
+      subst P (sym (k.meant i l)) (sides-whole cells (row_at rows i).cell (IsFor-wider i _ _ (omega (arith, h)) (k.sides i l)));
 }

@@ -1,13 +1,13 @@
 -- What a store of one owner stands for.
-use Rattle.std.proofs.Common.{◌≡◌, ◌≢◌, ◌⊎◌, inl, inr, ℕ, ◌+◌, ◌<◌, ◌≤◌, ◌^◌, List, [], ◌∷◌, ◌++◌, length, get_or, refl, sym, ◌∙◌, ap, subst, suc, zero, arith, length-append, Option, Some, None, IsSome, Contains}
+use Rattle.std.proofs.Common.{◌≡◌, ◌≢◌, ◌⊎◌, inl, inr, ℕ, ◌<◌, ◌≤◌, List, [], ◌∷◌, ◌++◌, length, get_or, refl, sym, ◌∙◌, ap, subst, suc, arith, length-append, Option, Some, None, IsSome, Contains}
 use Rattle.std.specs.Prelude.{slice_get, unwrap_or}
-use Rattle.lrc_store.specs.Cells.{CellTree, nil, number, pair, parts, HoldsParts, IsClosed, IsWithin}
-use Rattle.lrc_store.specs.Standing.{Standing, Stands, IsKnown, IsHeld, meant, IsSound, IsRemembered, IsMap}
-use Rattle.lrc_store.specs.Words.{Keeps, KeepsQuota, Adds, Tells, IsFullFor, Gains}
-use Rattle.lrc_plain.specs.Shelf.{Shelf, at, IsNamed, HasSides, IsShelf, IsPlaced, IsFullOf}
-use Rattle.lrc_plain.specs.Plain.{pairs, standing, outcome, IsMemo}
+use Rattle.lrc_store.specs.Cells.{CellTree, nil, IsWithin}
+use Rattle.lrc_store.specs.Standing.{IsSound, IsMap}
+use Rattle.lrc_store.specs.Words.{Adds, Tells, IsFullFor}
+use Rattle.lrc_plain.specs.Shelf.{Shelf, at, IsNamed, IsShelf}
+use Rattle.lrc_plain.specs.Plain.{pairs, standing}
 use Rattle.lrc_plain.proofs.RowLemmas.{at-push}
-use Rattle.lrc_plain.proofs.Lists.{get-some, get-at, contains-at, at-contained, named-contained, named-cases, parts-held, no_repeats, row-of_pair, pair-of_row, pairs-push, contains-left, IsOfRow}
+use Rattle.lrc_plain.proofs.Lists.{get-some, get-at, at-contained, named-contained, named-cases, parts-held, no_repeats, row-of_pair, pairs-push, contains-left}
 
 -- a handle stands for its place in the list
 pub stands-at : (cells : List CellTree) (handle : ℕ) (c : CellTree) → handle ≤ length cells → at cells handle ≡ c → slice_get (nil ∷ cells) handle ≡ Some c
@@ -59,7 +59,7 @@ sound s outcomes missed k = record {
   seen_closed = λ c h. parts-held s k c (named-contained s.cells c h);
   seen_without_nil = λ h. let p = at-contained s.cells nil h in let z : suc p.0 ≡ 0 = k.distinct (suc p.0) 0 (omega (arith, p.1)) (omega arith) p.2 in omega arith;
   memo_map = memo-map s outcomes k;
-  memo_seen = refl
+  memo_seen = refl;
 }
 
 -- rows that were there, or one more
@@ -96,7 +96,7 @@ adds s t c outcomes missed rest known quota grown = record {
   drawn = inl refl;
   quota = record { pooled = refl; at_most = omega (arith, quota); fixed = λ _. quota };
   memo = ap (λ m. Some m) (pairs-grown s t c outcomes rest known grown);
-  missed = refl
+  missed = refl;
 }
 
 pub tells : (t : Shelf) (handle : ℕ) (c : CellTree) (outcomes : List ℕ) (missed : ℕ) → IsShelf t → handle ≤ length t.cells → at t.cells handle ≡ c →
@@ -107,5 +107,5 @@ pub full : (t : Shelf) (c : CellTree) (outcomes : List ℕ) (missed : ℕ) → �
 full t c outcomes missed none used = record {
   used = used;
   unknown = λ h. none (h.0, (at-stands t.cells h.0 c h.1).0, (at-stands t.cells h.0 c h.1).1);
-  unseen = λ h. none (named-contained t.cells c h)
+  unseen = λ h. none (named-contained t.cells c h);
 }

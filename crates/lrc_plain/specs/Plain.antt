@@ -1,5 +1,5 @@
 -- A store of one owner: what it keeps, and what it stands for.
-use Rattle.std.specs.Prelude.{ℕ, ◌≡◌, ◌≢◌, ◌<◌, ◌≤◌, List, [], ◌∷◌, length, Contains, Option, Some, None, false, slice_get, slice_index, suc, zero, refl}
+use Rattle.std.specs.Prelude.{ℕ, ◌≡◌, ◌≢◌, ◌<◌, ◌≤◌, List, [], ◌∷◌, length, Contains, Some, None, false, slice_get, slice_index, suc, zero, refl}
 use Rattle.std.specs.Coded.{Coded, code_by, coded_ℕ, coded_list, coded×}
 use Rattle.lrc_store.specs.Cells.{CellTree, nil, IsWithin}
 use Rattle.lrc_store.specs.Standing.{Standing}
@@ -34,7 +34,7 @@ standing shelf outcomes missed = record {
   quota = shelf.quota;
   memo = Some (pairs shelf.cells shelf.cells outcomes);
   seen = Some shelf.cells;
-  missed = missed
+  missed = missed;
 }
 
 -- the handle that is kept for a handle, or 0

@@ -1,5 +1,5 @@
 -- What a store of one owner answers of a call.
-use Rattle.std.specs.Prelude.{ℕ, ◌≡◌}
+use Rattle.std.specs.Prelude.{◌≡◌}
 use Rattle.lrc_store.specs.declared.stores.Recall.{Recall}
 use Rattle.lrc_store.specs.declared.stores.Recall.TheVariants as recall
 

@@ -1,5 +1,5 @@
 -- Rows of cells: which cells they hold.
-use Rattle.std.specs.Prelude.{ℕ, ◌≡◌, ◌+◌, ◌*◌, ◌<◌, ◌≤◌, ◌^◌, List, [], ◌∷◌, ◌++◌, length, slice_index_or, vec_capacity, suc}
+use Rattle.std.specs.Prelude.{ℕ, ◌≡◌, ◌*◌, ◌<◌, ◌≤◌, ◌^◌, List, [], ◌∷◌, ◌++◌, length, vec_capacity, suc}
 use Rattle.lrc_store.specs.Cells.{CellTree, nil, number, pair}
 use Rattle.lrc_store.specs.declared.cells.Cell.{Cell}
 use Rattle.lrc_store.specs.declared.cells.Cell.TheVariants as cell

@@ -1,5 +1,5 @@
 -- Rows of cells as callers see them.
-use Rattle.std.specs.Prelude.{ℕ, ◌≡◌, ◌⊎◌, ◌<◌, ◌≤◌, ◌^◌, List, [], ◌∷◌, ◌++◌, length, slice_index_or, Contains, suc, refl}
+use Rattle.std.specs.Prelude.{ℕ, ◌≡◌, ◌⊎◌, ◌<◌, ◌≤◌, ◌^◌, List, [], ◌∷◌, ◌++◌, length, slice_index_or, suc, refl}
 use Rattle.std.specs.Coded.{Coded, code_by, coded_ℕ, coded_list, coded×}
 use Rattle.lrc_store.specs.Cells.{CellTree, nil, number, pair, coded_cell}
 
@@ -37,7 +37,7 @@ pub record IsPlaced (before after : Shelf) (cell : CellTree) (handle : ℕ) : Ty
   pub within : handle ≤ length after.cells
   pub stands : at after.cells handle ≡ cell
   pub cells : (IsNamed before.cells cell × (after.cells ≡ before.cells))
-    ⊎ ((¬ IsNamed before.cells cell) × (length before.cells < before.quota) × (after.cells ≡ before.cells ++ cell ∷ []))
+      ⊎ ((¬ IsNamed before.cells cell) × (length before.cells < before.quota) × (after.cells ≡ before.cells ++ cell ∷ []))
 
 -- the cell is in no row, and all rows are used
 pub record IsFullOf (before after : Shelf) (cell : CellTree) : Type 0 where

@@ -4,6 +4,7 @@ ghost use Rattle.lrc_plain.specs.Chains.{IsChained, IsHeaded, IsAt};
 
 use crate::homes::home;
 use lrc_store::{Cell, Handle};
+use std::mem::size_of;
 
 /// A row of an index: a cell, and the last earlier row of the same bucket, as its place plus one, or 0.
 #[derive(Debug, Clone, Copy)]
@@ -11,6 +12,9 @@ pub struct Row {
     pub cell: Cell,
     pub earlier: u32,
 }
+
+// With its two heads and its outcome, a row takes at most 48 bytes.
+const _: () = prove!(size_of::<Row>() + 2 * size_of::<u32>() + size_of::<u32>() <= 48);
 
 /// The handle of the row of a cell: its place plus one.
 pub fn find(rows: &[Row], heads: &[u32], cell: Cell) -> Option<Handle>

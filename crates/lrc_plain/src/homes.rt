@@ -8,8 +8,12 @@ use lrc_store::Cell;
 fn mix(tag: u64, one: u64, other: u64) -> u64
     ensures { result ≡ mixed tag one other }
 {
-    let first = tag.wrapping_mul(11_400_714_819_323_198_485).wrapping_add(one);
-    let second = (first ^ (first >> 29)).wrapping_mul(13_787_848_793_156_543_929).wrapping_add(other);
+    let first = tag
+        .wrapping_mul(11_400_714_819_323_198_485)
+        .wrapping_add(one);
+    let second = (first ^ (first >> 29))
+        .wrapping_mul(13_787_848_793_156_543_929)
+        .wrapping_add(other);
     second ^ (second >> 32)
 }
 

@@ -1,6 +1,6 @@
 -- What a store stands for.
-use Rattle.std.specs.Prelude.{ℕ, ◌≡◌, ◌≢◌, ◌<◌, ◌≤◌, ◌^◌, Bool, false, List, [], ◌∷◌, ◌++◌, length, Option, Some, None, IsSome, Contains, unwrap_or}
-use Rattle.lrc_store.specs.Cells.{CellTree, nil, IsClosed, IsWithin, HoldsParts}
+use Rattle.std.specs.Prelude.{ℕ, ◌≡◌, ◌≢◌, ◌<◌, ◌≤◌, ◌^◌, Bool, false, List, [], ◌∷◌, length, Option, Some, None, IsSome, Contains, unwrap_or}
+use Rattle.lrc_store.specs.Cells.{CellTree, nil, IsClosed}
 
 -- What a store stands for at one time.
 --   known    the cell that a handle stands for, where the handle is known

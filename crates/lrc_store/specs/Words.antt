@@ -1,5 +1,5 @@
 -- What the calls of a store do to what it stands for.
-use Rattle.std.specs.Prelude.{ℕ, ◌≡◌, ◌⊎◌, ◌+◌, ◌<◌, ◌≤◌, ◌^◌, ◌-◌, min, Bool, false, List, [], ◌∷◌, ◌++◌, length, Option, Some, None, Contains, Result, IfOk, OnErr}
+use Rattle.std.specs.Prelude.{ℕ, ◌≡◌, ◌⊎◌, ◌+◌, ◌≤◌, ◌^◌, ◌-◌, min, false, List, [], ◌∷◌, ◌++◌, length, Option, Some, None, Contains, Result, IfOk, OnErr}
 use Rattle.lrc_store.specs.Cells.{CellTree, nil, number, pair, HoldsParts, IsWithin}
 use Rattle.lrc_store.specs.Standing.{Standing, Stands, IsKnown, IsHeld, meant, Told, IsRemembered}
 use Rattle.lrc_store.specs.declared.cells.Cell.{Cell}

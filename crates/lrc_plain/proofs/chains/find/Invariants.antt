@@ -7,7 +7,7 @@ abbrev pub invariant-loop-place : goal.invariant-loop-place
 invariant-loop-place l = record {
   within : l.place ≤ length l.rows;
   alike : (j : ℕ) → l.place ≡ j + 1 → bucket_at l.rows (length l.heads) j ≡ home_of l.cell (length l.heads);
-  covers : (i : ℕ) → IsAt l.rows l.cell i → i < l.place
+  covers : (i : ℕ) → IsAt l.rows l.cell i → i < l.place;
 }
 
 abbrev pub decreases-loop-place : goal.decreases-loop-place

@@ -1,4 +1,4 @@
-use Rattle.std.proofs.Common.{◌≡◌, subst}
+use Rattle.std.proofs.Common.{subst}
 use Rattle.std.specs.Prelude.{IsErr, ◌↔◌}
 use Rattle.lrc_store.specs.Cells.{CellTree}
 use Rattle.lrc_store.specs.Words.{Puts}

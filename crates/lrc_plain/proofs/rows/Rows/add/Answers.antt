@@ -16,7 +16,7 @@ invariant_of-self c =
       buckets = c.link.ensures.buckets ∙ c.self.invariant.buckets;
       chained = c.link.ensures.chained;
       headed = c.link.ensures.headed;
-      kept = kept-linked c.args.self.now.cells c.self.inside.rows.items c.link.new.rows.items c.args.cell c.self.invariant.kept view c.requires.form c.requires.unnamed c.link.ensures.row
+      kept = kept-linked c.args.self.now.cells c.self.inside.rows.items c.link.new.rows.items c.args.cell c.self.invariant.kept view c.requires.form c.requires.unnamed c.link.ensures.row;
     }
 
 pub returns-clause-cells : goal.returns-clause-cells
