@@ -1,0 +1,5 @@
+pub mod RowLemmas
+pub mod Lists
+pub mod Standings
+pub mod Calls
+pub mod Memo

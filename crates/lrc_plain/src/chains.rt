@@ -1,0 +1,66 @@
+ghost use Rattle.std.specs.Prelude.{◌≡◌, ◌+◌, ◌<◌, ◌≤◌, ◌^◌, ◌++◌, ◌∷◌, [], ℕ, length, MatchOption, vec_len, vec_capacity};
+ghost use Rattle.lrc_plain.specs.declared.chains.Row.{Row};
+ghost use Rattle.lrc_plain.specs.Chains.{IsChained, IsHeaded, IsAt};
+
+use crate::homes::home;
+use lrc_store::{Cell, Handle};
+use std::mem::size_of;
+
+/// A row of an index: a cell, and the last earlier row of the same bucket, as its place plus one, or 0.
+#[derive(Debug, Clone, Copy)]
+pub struct Row {
+    pub cell: Cell,
+    pub earlier: u32,
+}
+
+// With its two heads and its outcome, a row takes at most 48 bytes.
+const _: () = prove!(size_of::<Row>() + 2 * size_of::<u32>() + size_of::<u32>() <= 48);
+
+/// The handle of the row of a cell: its place plus one.
+pub fn find(rows: &[Row], heads: &[u32], cell: Cell) -> Option<Handle>
+    requires some { 0 < length heads.now }
+    requires chained { IsChained rows.now (length heads.now) }
+    requires headed { IsHeaded rows.now heads.now }
+    ensures { MatchOption result ((i : ℕ) → ¬ IsAt rows.now cell i) (λ handle. (i : ℕ) × (handle.0 ≡ i + 1) × IsAt rows.now cell i) }
+{
+    let mut place = heads[home(cell, heads.len())];
+    while place > 0 {
+        let row = rows[place as usize - 1];
+        if row.cell == cell {
+            return Some(Handle(place));
+        }
+        place = row.earlier;
+    }
+    None
+}
+
+/// Puts a row behind the others, where there is room, and names it.
+pub fn link(rows: &mut Vec<Row>, heads: &mut Vec<u32>, cell: Cell) -> Handle
+    requires some { 0 < length heads.old.items }
+    requires room { vec_len rows.old < vec_capacity rows.old }
+    requires limit { vec_len rows.old < 2 ^ 24 }
+    requires chained { IsChained rows.old.items (length heads.old.items) }
+    requires headed { IsHeaded rows.old.items heads.old.items }
+    ensures row { (row : Row) × (row.cell ≡ cell) × (rows.new.items ≡ rows.old.items ++ row ∷ []) }
+    ensures buckets { length heads.new.items ≡ length heads.old.items }
+    ensures chained { IsChained rows.new.items (length heads.new.items) }
+    ensures headed { IsHeaded rows.new.items heads.new.items }
+    ensures room { vec_capacity rows.old ≤ vec_capacity rows.new }
+    ensures handle { result.0 ≡ vec_len rows.old + 1 }
+{
+    let bucket = home(cell, heads.len());
+    let place = rows.len() as u32 + 1;
+    let earlier = heads[bucket];
+    heads[bucket] = place;
+    append(rows, Row { cell, earlier });
+    Handle(place)
+}
+
+/// Puts a row behind the others, where there is room.
+fn append(rows: &mut Vec<Row>, row: Row)
+    requires { vec_len rows.old < vec_capacity rows.old }
+    ensures row { rows.new.items ≡ rows.old.items ++ row ∷ [] }
+    ensures room { vec_capacity rows.old ≤ vec_capacity rows.new }
+{
+    let _pushed = rows.push(row);
+}

@@ -1,0 +1,184 @@
+ghost use Rattle.std.specs.Prelude.{◌≡◌, ◌+◌, ◌<◌, ◌≤◌, ◌^◌, ◌↔◌, [], length, IfOk, IfErr, OnErr, IsErr, IsTrue};
+ghost use Rattle.lrc_store.specs.Cells.{CellTree, number, pair, IsWithin};
+ghost use Rattle.lrc_store.specs.Standing.{Standing, IsSound, IsKnown, Told, meant};
+ghost use Rattle.lrc_store.specs.Words.{Puts, Reads, Stays, Shows, Recalls, Remembers};
+ghost use Rattle.lrc_plain.specs.Shelf.{at, IsShelf, IsPlaced, IsFullOf};
+ghost use Rattle.lrc_plain.specs.Rows.{whole, IsFor, IsOver};
+ghost use Rattle.lrc_plain.specs.Plain.{standing, outcome, IsMemo, IsNew, IsFullAt};
+ghost use Rattle.lrc_plain.specs.Recalled.{IsMissedAtZero};
+
+use crate::rows::Rows;
+use lrc_store::{Cell, Full, Handle, Meaning, NoMeaning, Recall, Store};
+use std::alloc::{AllocError, Global};
+use std::marker::Model;
+
+/// A store of cells for one owner. It forgets nothing, and all its memory is taken when it is made.
+#[derive(Drop)]
+pub struct PlainStore<M: Meaning> {
+    rows: Rows,
+    // For each row the handle of the result that is remembered for its cell, or 0.
+    outcomes: Vec<u32>,
+    missed: u64,
+    meaning: M,
+}
+
+impl<M: Meaning> Model for PlainStore<M> {
+    ghost use Rattle.lrc_plain.specs.Plain.{Plain, coded_plain, IsMemo};
+
+    ghost Value = { Plain M };
+
+    ghost coded = { coded_plain M.code };
+
+    ghost view = { λ a. record { shelf = a.rows; outcomes = a.outcomes.items; missed = a.missed; meaning = a.meaning } };
+
+    ghost invariant = { λ a. IsMemo (M.allows a.meaning) (M.reach a.meaning) a.rows a.outcomes.items };
+}
+
+impl PlainStore<NoMeaning> {
+    /// An empty store with this many rows, from 1 to 16,777,216, that remembers nothing.
+    ///
+    /// # Errors
+    ///
+    /// Want of memory.
+    pub fn new(alloc: Global, rows: u32) -> Result<PlainStore<NoMeaning>, AllocError>
+        requires some { 1 ≤ rows }
+        requires limit { rows ≤ 2 ^ 24 }
+        ensures { IfOk result (λ store. IsNew (standing store.shelf store.outcomes store.missed) rows) }
+    {
+        PlainStore::with_meaning(alloc, NoMeaning, rows)
+    }
+}
+
+impl<M: Meaning + Drop> PlainStore<M> {
+    /// An empty store with this many rows, from 1 to 16,777,216, that remembers what the meaning
+    /// allows.
+    ///
+    /// # Errors
+    ///
+    /// Want of memory.
+    pub fn with_meaning(alloc: Global, meaning: M, rows: u32) -> Result<PlainStore<M>, AllocError>
+        requires some { 1 ≤ rows }
+        requires limit { rows ≤ 2 ^ 24 }
+        ensures { IfOk result (λ store. IsNew (standing store.shelf store.outcomes store.missed) rows × (store.meaning ≡ meaning)) }
+    {
+        Ok(PlainStore {
+            rows: Rows::new(alloc, rows)?,
+            outcomes: vec![in alloc; 0; rows as usize]?,
+            missed: 0,
+            meaning,
+        })
+    }
+}
+
+impl<M: Meaning> PlainStore<M> {
+    /// The handle of the cell, which is in a row then.
+    fn put(&mut self, cell: Cell) -> Result<Handle, Full>
+        requires { IsFor (length self.old.shelf.cells) cell }
+        ensures puts { Puts (standing self.old.shelf self.old.outcomes self.old.missed) (standing self.new.shelf self.new.outcomes self.new.missed) (whole self.old.shelf.cells cell) result }
+        ensures exact { IsErr result ↔ IsFullAt self.old.shelf (whole self.old.shelf.cells cell) }
+        ensures same_meaning { self.new.meaning ≡ self.old.meaning }
+    {
+        self.rows.put(cell)
+    }
+
+    /// How many rows there are.
+    fn len(&self) -> u32
+        ensures count { result ≡ length self.now.shelf.cells }
+        ensures memo { IsMemo (M.allows self.now.meaning) (M.reach self.now.meaning) self.now.shelf self.now.outcomes }
+    {
+        self.rows.len()
+    }
+
+    /// The outermost form of the cell that the handle stands for.
+    fn form_of(&self, handle: Handle) -> Cell
+        requires { handle.0 ≤ length self.now.shelf.cells }
+        ensures cell { whole self.now.shelf.cells result ≡ at self.now.shelf.cells handle.0 }
+        ensures known { IsOver (length self.now.shelf.cells) result }
+    {
+        self.rows.look(handle)
+    }
+
+    /// The number of the handle of the remembered result, or 0.
+    fn outcome_of(&self, call: Handle) -> u32
+        requires { call.0 ≤ length self.now.shelf.cells }
+        ensures value { result ≡ outcome self.now.outcomes call.0 }
+        ensures memo { IsMemo (M.allows self.now.meaning) (M.reach self.now.meaning) self.now.shelf self.now.outcomes }
+    {
+        if call == Handle::NIL {
+            0
+        } else {
+            self.outcomes[call.0 as usize - 1]
+        }
+    }
+}
+
+impl<N: Meaning> Store for PlainStore<N> {
+    type M = N;
+
+    ghost state = { λ s. standing s.shelf s.outcomes s.missed };
+
+    ghost meaning = { λ s. s.meaning };
+
+    fn int(&mut self, value: i64) -> Result<Handle, Full>
+        ensures puts { Puts (standing self.old.shelf self.old.outcomes self.old.missed) (standing self.new.shelf self.new.outcomes self.new.missed) (number value) result }
+        ensures exact { IsErr result ↔ IsFullAt self.old.shelf (number value) }
+        ensures same_meaning { self.new.meaning ≡ self.old.meaning }
+    {
+        self.put(Cell::Number(value))
+    }
+
+    fn cell(&mut self, tag: u32, left: Handle, right: Handle) -> Result<Handle, Full>
+        requires left_known { IsKnown (standing self.old.shelf self.old.outcomes self.old.missed) left.0 }
+        requires right_known { IsKnown (standing self.old.shelf self.old.outcomes self.old.missed) right.0 }
+        ensures puts { let s = standing self.old.shelf self.old.outcomes self.old.missed in Puts s (standing self.new.shelf self.new.outcomes self.new.missed) (pair tag (meant s left.0) (meant s right.0)) result }
+        ensures exact { let s = standing self.old.shelf self.old.outcomes self.old.missed in IsErr result ↔ IsFullAt self.old.shelf (pair tag (meant s left.0) (meant s right.0)) }
+        ensures same_meaning { self.new.meaning ≡ self.old.meaning }
+    {
+        self.put(Cell::Pair(tag, left, right))
+    }
+
+    fn look(&mut self, handle: Handle) -> Cell {
+        self.form_of(handle)
+    }
+
+    fn same(&self, left: Handle, right: Handle) -> bool {
+        let _rows = self.len();
+        left == right
+    }
+
+    fn recall(&mut self, call: Handle) -> Recall
+        requires { IsKnown (standing self.old.shelf self.old.outcomes self.old.missed) call.0 }
+        ensures stays { Stays (standing self.old.shelf self.old.outcomes self.old.missed) (standing self.new.shelf self.new.outcomes self.new.missed) }
+        ensures same_memo { (standing self.new.shelf self.new.outcomes self.new.missed).memo ≡ (standing self.old.shelf self.old.outcomes self.old.missed).memo }
+        ensures answers { let s = standing self.old.shelf self.old.outcomes self.old.missed in Recalls (N.allows self.old.meaning) (N.reach self.old.meaning) s (standing self.new.shelf self.new.outcomes self.new.missed) (meant s call.0) result }
+        ensures zero { IsMissedAtZero result }
+        ensures same_meaning { self.new.meaning ≡ self.old.meaning }
+    {
+        let outcome = self.outcome_of(call);
+        if outcome == 0 {
+            self.missed = self.missed.saturating_add(1);
+            return Recall::Missed(0);
+        }
+        Recall::Found(Handle(outcome))
+    }
+
+    fn remember(&mut self, call: Handle, outcome: Handle) {
+        self.outcomes[call.0 as usize - 1] = outcome.0;
+    }
+
+    fn forget(&mut self, place: u64) {
+        let _ = place;
+    }
+
+    fn published(&self) -> u32 {
+        self.len()
+    }
+
+    fn quota(&self) -> u32 {
+        self.rows.quota()
+    }
+
+    fn missed(&self) -> u64 {
+        self.missed
+    }
+}
