@@ -1,14 +1,9 @@
 -- One edit: from what replacing finds to the edit's answer.
-use Rattle.std.proofs.Common.{◌≡◌, ◌≢◌, ℕ, ◌<◌, ◌≤◌, Bool, false, IsTrue, ◌↔◌, List, [], ◌∷◌, ◌++◌, map, Option, Some, None, IsSomeAnd, refl, sym, ap, ◌∙◌, subst, lt_of_not-le, arith}
+use Rattle.std.proofs.Common.{◌≡◌, ◌≢◌, ℕ, ◌<◌, ◌≤◌, Bool, false, IsTrue, ◌↔◌, List, [], ◌∷◌, ◌++◌, Option, Some, None, IsSomeAnd, refl, sym, ◌∙◌, subst, lt_of_not-le, arith}
 use Rattle.std.proofs.lemmas.Bool.{false≢true}
 use Rattle.std.specs.Option.{option_and_then}
 use Rattle.lrc_base.specs.declared.grammar.Kind.{Kind}
-use Rattle.lrc_base.specs.declared.grammar.Production.{Production}
-use Rattle.lrc_base.specs.declared.job.Edit.{Edit}
-use Rattle.lrc_base.specs.declared.job.Edit.TheVariants as edit
-use Rattle.lrc_base.specs.declared.job.Path.{Path}
-use Rattle.lrc_base.specs.declared.term.Term.{Term}
-use Rattle.lrc_meaning.specs.Tree.{Tree, int, tree, fits, kind_of, at_place, replaced, tree_height}
+use Rattle.lrc_meaning.specs.Tree.{Tree, fits, kind_of, at_place, replaced, tree_height}
 use Rattle.lrc_meaning.specs.Grammar.{Grammar, is_well_formed}
 use Rattle.lrc_meaning.specs.Plain.{is_plain}
 use Rattle.lrc_meaning.specs.Attribution.{Attributes}

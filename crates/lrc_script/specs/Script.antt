@@ -1,5 +1,5 @@
 -- What the replies of a session are, and which of its edits are answered.
-use Rattle.std.specs.Prelude.{ℕ, Bool, false, List, map, Option, option_map}
+use Rattle.std.specs.Prelude.{ℕ, Bool, false, List, map, option_map}
 use Rattle.std.specs.List.{list_all}
 use Rattle.lrc_base.specs.declared.grammar.Production.{Production}
 use Rattle.lrc_base.specs.declared.job.Edit.{Edit}

@@ -4,8 +4,8 @@ ghost use Rattle.lrc_script.specs.Script.{is_fitting_put};
 
 use crate::{Reply, replies};
 use lrc_base::{
-    Attr, Boxed, Edit, Equation, Expr, Kid, Kind, List, NameText, Op, Path, Production, Script,
-    Sort, Term,
+    Attr, Boxed, Edit, Equation, Expr, Kid, Kind, List, Memory, NameText, Op, Path, Production,
+    Script, Sort, Term,
 };
 use lrc_grammar::{Grammar, fits};
 use std::alloc::Global;
@@ -26,8 +26,10 @@ fn kid(name: &[u8], kind: Kind) -> Result<Kid, Fail> {
     })
 }
 
-fn one<T: Drop>(alloc: Global, item: T) -> Result<List<T>, Fail> {
-    Ok(List::from_vec(vec![in alloc; item]?))
+fn one<T: Drop>(alloc: Global, item: T) -> Result<List<T>, Memory> {
+    let mut items = List::new(alloc);
+    items.push(item)?;
+    Ok(items)
 }
 
 /// A production of the first sort, with the one attribute's expression.

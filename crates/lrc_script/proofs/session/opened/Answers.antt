@@ -1,4 +1,4 @@
-use Rattle.std.proofs.Common.{IsTrue, map, sym, ap, ◌∙◌, subst, arith}
+use Rattle.std.proofs.Common.{IsTrue, map, sym, ap, subst, arith}
 use Rattle.lrc_base.specs.declared.grammar.Kind.TheVariants as k
 use Rattle.lrc_meaning.specs.Tree.{int, tree, fits}
 use Rattle.lrc_meaning.specs.Editing.{change}
