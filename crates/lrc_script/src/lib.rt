@@ -1,0 +1,11 @@
+//! The replies of a session with edits: after each edit the tree is evaluated from scratch.
+#![tactic(auto)]
+
+mod attempt;
+mod reply;
+mod session;
+#[cfg(test)]
+mod tests;
+
+pub use reply::{Replies, Reply};
+pub use session::replies;
