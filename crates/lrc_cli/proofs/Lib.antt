@@ -4,3 +4,4 @@ pub mod StatusLemmas
 pub mod FaultLemmas
 pub mod RunLemmas
 pub mod OneLemmas
+pub mod PlainLemmas

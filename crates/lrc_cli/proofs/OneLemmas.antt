@@ -11,6 +11,7 @@ use Rattle.lrc_base.specs.declared.job.Job.{Job}
 use Rattle.lrc_base.specs.declared.job.RawScript.{RawScript}
 use Rattle.lrc_scratch.specs.Laws.{AttributionsAreUnique}
 use Rattle.lrc_cli.specs.Headline.{IsGrammarOf, IsTreeOf, IsBuilt, IsRunOf, depth_limit}
+use Rattle.lrc_cli.proofs.PlainLemmas.{built_is_plain}
 use Rattle.lrc_cli.proofs.RunLemmas.{OneJob, same_grammar, same_script}
 
 -- how a session without edits goes: its opening has attributes, or none
@@ -87,4 +88,4 @@ one_text_of one unique bytes text other a b =
     let here = opened a.grammar (unparsed a.grammar.prods) a.opening a.replies a.last a.runs in
     let there = opened b.grammar (unparsed b.grammar.prods) b.opening b.replies b.last b.runs in
     let moved : Opened b.grammar b.opening a.replies a.last = subst (λ (z : Tree). Opened b.grammar z a.replies a.last) same.1 (subst (λ (z : Grammar). Opened z a.opening a.replies a.last) same.0 here) in
-    a.prints ∙ ap (λ (z : Grammar). run_text z (a.replies ∷ []) (a.last ∷ [])) same.0 ∙ same_text unique b.grammar b.opening b.built.of_grammar.well_formed b.built.of_grammar.plain a.replies b.replies a.last b.last moved there ∙ sym b.prints
+    a.prints ∙ ap (λ (z : Grammar). run_text z (a.replies ∷ []) (a.last ∷ [])) same.0 ∙ same_text unique b.grammar b.opening b.built.of_grammar.well_formed (built_is_plain bytes b.grammar b.opening b.built) a.replies b.replies a.last b.last moved there ∙ sym b.prints

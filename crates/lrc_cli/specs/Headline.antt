@@ -7,7 +7,6 @@ use Rattle.lrc_base.specs.declared.raw.RawGrammar.{RawGrammar}
 use Rattle.lrc_base.specs.declared.raw.RawTerm.{RawTerm}
 use Rattle.lrc_meaning.specs.Tree.{Tree, fits, tree_height}
 use Rattle.lrc_meaning.specs.Grammar.{Grammar, is_well_formed}
-use Rattle.lrc_meaning.specs.Plain.{is_plain}
 use Rattle.lrc_meaning.specs.Naming.{named_grammar, named_tree}
 use Rattle.lrc_meaning.specs.Editing.{Reply, ReplyRun, never_full}
 use Rattle.lrc_meaning.specs.Text.{unparsed, run_text}
@@ -21,11 +20,10 @@ depth_limit = 500
 abbrev pub HasNoScript : Job → Type 0
 HasNoScript job = (s : RawScript) → job.sessions ≡ s ∷ [] → s.edits ≡ [] → ⊥
 
--- the grammar that is written, which is well formed and plain
+-- the grammar that is written, which is well formed
 pub record IsGrammarOf (raw : RawGrammar) (grammar : Grammar) : Type 0 where
   pub named : named_grammar raw ≡ Some grammar
   pub well_formed : IsTrue (is_well_formed grammar)
-  pub plain : IsTrue (is_plain grammar)
 
 -- the tree that is written, which is of the start sort and within the depth limit
 pub record IsTreeOf (grammar : Grammar) (raw : RawTerm) (opening : Tree) : Type 0 where

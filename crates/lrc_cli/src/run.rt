@@ -48,8 +48,7 @@ fn script_of(job: &Job) -> Option<&RawScript>
     }
 }
 
-/// The grammar that is written; None where a name is unknown, or where it is not well formed or not
-/// plain.
+/// The grammar that is written; None where a name is unknown, or where it is not well formed.
 fn grammar_from(alloc: Global, raw: &RawGrammar) -> Result<Option<Grammar>, Memory>
     requires { KeepsLimits raw.now }
     ensures grammar { IfOk result
@@ -59,14 +58,7 @@ fn grammar_from(alloc: Global, raw: &RawGrammar) -> Result<Option<Grammar>, Memo
     let Some(numbered) = named_grammar(alloc, raw)? else {
         return Ok(None);
     };
-    let Some(grammar) = Grammar::new(alloc, numbered.sorts, numbered.prods, numbered.start)? else {
-        return Ok(None);
-    };
-    if grammar.is_plain() {
-        Ok(Some(grammar))
-    } else {
-        Ok(None)
-    }
+    Grammar::new(alloc, numbered.sorts, numbered.prods, numbered.start)
 }
 
 /// The tree that is written; None where a production's name is unknown, or where the tree is not of

@@ -1,5 +1,6 @@
 use Rattle.std.proofs.Common.{◌≡◌, ap, ◌∙◌}
 use Rattle.lrc_cli.specs.Opening.{opening_text}
+use Rattle.lrc_cli.proofs.PlainLemmas.{built_is_plain}
 use Rattle.lrc_cli.proofs.RunLemmas.{run_of}
 use Rattle.lrc_grammar.specs.Grammar.{grammar_of}
 use Rattle.lrc_meaning.specs.Tree.{tree}
@@ -13,3 +14,7 @@ returns c =
     (rw (c.as_slice-sorts.ensures, c.as_slice-prods.ensures) at c.in_ok-values.ensures)
     (rw c.as_slice-sorts.ensures at c.attrs_of_sort.ensures)
     shown
+
+pub attributes-requires-clause-plain : goal.attributes-requires-clause-plain
+attributes-requires-clause-plain c =
+    rw (c.as_slice-sorts.ensures, c.as_slice-prods.ensures) (built_is_plain _ (grammar_of c.in-Some.opening.grammar) _ (rw c.in-Some.is at c.in_ok-opening.ensures))
