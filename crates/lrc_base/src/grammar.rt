@@ -65,3 +65,12 @@ pub struct Production {
     pub equations: Items<Equation>,
     pub pattern: Option<Items<Piece>>,
 }
+
+/// A pair of attributes of a sort that is given to the ordered test: `first` comes before `then`, by
+/// their numbers among the sort's attributes.
+#[derive(Debug, Clone, Copy, PartialEq, Eq)]
+pub struct Given {
+    pub sort: u32,
+    pub first: u32,
+    pub then: u32,
+}

@@ -10,9 +10,11 @@ mod job;
 mod name;
 mod raw;
 mod term;
+#[cfg(test)]
+mod tests;
 
 pub use expr::{Expr, Op};
-pub use grammar::{Attr, Equation, Extra, Kid, Kind, Piece, Production, Sort};
+pub use grammar::{Attr, Equation, Extra, Given, Kid, Kind, Piece, Production, Sort};
 pub use job::{Edit, Job, Path, RawEdit, RawScript, Script};
 pub use name::NameText;
 pub use raw::{

@@ -1,10 +1,10 @@
 -- What `next` says of the text: by its first character, and that a token is the longest one there.
-use Rattle.std.proofs.Common.{◌≡◌, ℕ, zero, suc, ◌<◌, ◌≤◌, ◌==◌, Bool, true, false, cond, ◌&&◌, inl, inr, List, [], ◌∷◌, length, get_or, take, drop, sym, ap, refl, ◌∙◌, subst, arith, length-take-le, nat_le}
+use Rattle.std.proofs.Common.{◌≡◌, ℕ, zero, suc, ◌<◌, ◌≤◌, ◌==◌, ◌≢◌, Bool, true, false, cond, ◌&&◌, inl, inr, List, [], ◌∷◌, length, get_or, take, drop, sym, ap, refl, ◌∙◌, subst, arith, length-take-le, nat_le}
 use Rattle.std.specs.Prelude.{Contains}
 use Rattle.std.proofs.lemmas.List.Elements.{All-contains, All-cons, All-nil}
 use Rattle.std.specs.Char.{is_ascii_digit}
 use Rattle.std.specs.List.{prefix_len, take_while, AllPass}
-use Rattle.std.proofs.lemmas.Bool.{false≢true, and_parts, and_from, leb-true, le-leb, eqb-true, eq-eqb}
+use Rattle.std.proofs.lemmas.Bool.{false≢true, cases_lt, and_parts, and_from, leb-true, le-leb, eqb-true, eq-eqb}
 use Rattle.std.proofs.lemmas.List.Sums.{prefix_len-le-length}
 use Rattle.std.proofs.lemmas.List.Folds.{length-prefix_len}
 use Rattle.std.proofs.lemmas.Bool.Decides.{nat_tests}
@@ -14,8 +14,9 @@ use Rattle.lrc_lex.specs.declared.TokenClass.TheVariants.{Word, Natural, Negativ
 use Rattle.lrc_lex.specs.declared.scan.Step.{Step}
 use Rattle.lrc_lex.specs.declared.scan.Step.TheVariants.{End, Skip, Take, Refuse}
 use Rattle.lrc_lex.specs.Decimal.{natural_value, IsNatural}
-use Rattle.lrc_lex.specs.Tokens.{is_blank, starts_word, continues_word, is_symbol, begins_with, word_step, natural_step, symbol_step, next}
-use Rattle.lrc_lex.specs.Longest.{IsDigits, IsToken, IsLongest, IsTaken}
+use Rattle.lrc_lex.specs.Tokens.{is_blank, starts_word, continues_word, is_symbol, begins_with, word_step, natural_step, symbol_step, path_token_len, are_steps_small, path_step, next}
+use Rattle.lrc_lex.specs.Longest.{IsDigits, IsPath, IsToken, IsLongest, IsTaken}
+use Rattle.lrc_lex.proofs.PathLemmas.{path_some, path_within, path_form, path_most}
 use Rattle.lrc_lex.proofs.Runs.{passes_in_run, run_is_longest, run_is}
 
 -- nothing is left
@@ -42,11 +43,22 @@ unfolding next
 next_natural [] h blank word digit = absurd (omega arith)
 next_natural (c ∷ rest) h blank word digit = rw (blank, word, digit)
 
--- something else stands first
-pub next_symbol : (text : List ℕ) → 0 < length text → is_blank (get_or text 0 0) ≡ false → starts_word (get_or text 0 0) ≡ false → is_ascii_digit (get_or text 0 0) ≡ false → next text ≡ symbol_step (get_or text 0 0) (drop 1 text)
+-- a `/` stands first
+pub next_path : (text : List ℕ) → 0 < length text → get_or text 0 0 ≡ 47 → next text ≡ path_step text
 unfolding next
-next_symbol [] h blank word digit = absurd (omega arith)
-next_symbol (c ∷ rest) h blank word digit = rw (blank, word, digit)
+next_path [] h slash = absurd (omega arith)
+next_path (c ∷ rest) h slash = subst (λ d. next (d ∷ rest) ≡ path_step (d ∷ rest)) (sym slash) refl
+
+-- what isn't true is false
+false_from_not : (b : Bool) → ¬ (b ≡ true) → b ≡ false
+false_from_not true h = absurd (h refl)
+false_from_not false h = refl
+
+-- something else stands first
+pub next_symbol : (text : List ℕ) → 0 < length text → is_blank (get_or text 0 0) ≡ false → starts_word (get_or text 0 0) ≡ false → is_ascii_digit (get_or text 0 0) ≡ false → get_or text 0 0 ≢ 47 → next text ≡ symbol_step (get_or text 0 0) (drop 1 text)
+unfolding next
+next_symbol [] h blank word digit slash = absurd (omega arith)
+next_symbol (c ∷ rest) h blank word digit slash = rw (blank, word, digit, false_from_not (c == 47) (λ e. slash (eqb-true c 47 e)))
 
 -- what begins a word continues it
 starts-continues : (c : ℕ) → starts_word c ≡ true → continues_word c ≡ true
@@ -87,6 +99,7 @@ record NoLonger (c : ℕ) (rest : List ℕ) (n : ℕ) : Type 0 where
   natural : (m : ℕ) → n < m → m ≤ length (c ∷ rest) → AllPass is_ascii_digit (take m (c ∷ rest)) → ⊥
   negative : (m : ℕ) → n < m → m ≤ length (c ∷ rest) → c ≡ 45 → IsDigits (drop 1 (take m (c ∷ rest))) → ⊥
   equality : (m : ℕ) → n < m → m ≤ length (c ∷ rest) → take m (c ∷ rest) ≡ 61 ∷ 61 ∷ [] → ⊥
+  path : (m : ℕ) → n < m → m ≤ length (c ∷ rest) → c ≡ 47 → IsPath (take m (c ∷ rest)) → ⊥
 
 -- so no token is
 longest_by : (c : ℕ) (rest : List ℕ) (n : ℕ) → 1 ≤ n → NoLonger c rest n → (other : TokenClass) (m : ℕ) → n < m → m ≤ length (c ∷ rest) → IsToken other (take m (c ∷ rest)) → ⊥
@@ -98,7 +111,8 @@ longest_by c rest n some none Symbol m longer within h =
     elim h [ inl one ↦ omega (arith, one.0, length-take-le m (c ∷ rest) within) | inr two ↦ none.equality m longer within two ]
 longest_by c rest n some none NameLit m longer within h = h
 longest_by c rest n some none Text m longer within h = h
-longest_by c rest n some none Path m longer within h = h
+longest_by c rest n some none Path m longer within h =
+    none.path m longer within (eqb-true c 47 (sym (begins_with-take (λ d. d == 47) c rest m (omega arith)) ∙ h.0)) h
 
 -- a word's length is that of its longest run, which isn't 0
 word_some : (c : ℕ) (rest : List ℕ) → starts_word c ≡ true → 1 ≤ prefix_len continues_word (c ∷ rest)
@@ -123,6 +137,7 @@ word_is_next c rest word short =
         natural = λ m longer within h. no_word_and_digit c word (first_passes is_ascii_digit c rest m (omega arith) h);
         negative = λ m longer within e _. false≢true (subst (λ d. starts_word d ≡ true) e word);
         equality = λ m longer within e. false≢true (subst (λ d. starts_word d ≡ true) (first_of_front c rest m (omega arith) e) word);
+        path = λ m longer within e _. false≢true (subst (λ d. starts_word d ≡ true) e word);
       });
       name = λ _. record { some = omega (arith, long); at_most = omega (arith, long); no_zero = no_zero_passes _ passes };
       number = λ e. cc;
@@ -148,6 +163,7 @@ natural_is_next c rest digit fits =
         natural = λ m longer within h. run_is_longest is_ascii_digit (c ∷ rest) m longer within h;
         negative = λ m longer within e _. false≢true (subst (λ d. is_ascii_digit d ≡ true) e digit);
         equality = λ m longer within e. false≢true (subst (λ d. is_ascii_digit d ≡ true) (first_of_front c rest m (omega arith) e) digit);
+        path = λ m longer within e _. false≢true (subst (λ d. is_ascii_digit d ≡ true) e digit);
       });
       name = λ e. cc;
       number = λ _. record { some = omega (arith, long); digits_only = passes; in_range = fits };
@@ -175,10 +191,31 @@ equality_is_next c (d ∷ rest) first second =
         natural = λ m longer within h. false≢true (subst (λ b. is_ascii_digit b ≡ true) first (first_passes is_ascii_digit c (d ∷ rest) m (omega arith) h));
         negative = λ m longer within e _. absurd (omega arith);
         equality = λ m longer within e. omega (arith, ap length e, length-take-le m (c ∷ d ∷ rest) within);
+        path = λ m longer within e _. absurd (omega arith);
       });
       name = λ e. cc;
       number = λ e. cc;
       taken = tt;
+    }
+
+-- the longest path, where its steps are small
+path_is_next : (c : ℕ) (rest : List ℕ) → c ≡ 47 → are_steps_small (take (path_token_len rest) (c ∷ rest)) ≡ true → IsNext (c ∷ rest) Path (path_token_len rest)
+path_is_next c rest slash small =
+    let some = path_some rest in
+    record {
+      some = some;
+      within = path_within c rest;
+      form = path_form c rest slash;
+      longest = longest_by c rest _ some (record {
+        word = λ m longer within word _. false≢true (subst (λ d. starts_word d ≡ true) slash word);
+        natural = λ m longer within h. false≢true (subst (λ d. is_ascii_digit d ≡ true) slash (first_passes is_ascii_digit c rest m (omega arith) h));
+        negative = λ m longer within e _. absurd (omega arith);
+        equality = λ m longer within e. let other = first_of_front c rest m (omega arith) e in absurd (omega (arith, other));
+        path = λ m longer within _ h. omega (arith, path_most c rest m within h);
+      });
+      name = λ e. cc;
+      number = λ e. cc;
+      taken = small;
     }
 
 -- the second character of a front that is `==`
@@ -189,8 +226,8 @@ second_of_front c [] (suc (suc n)) e = cc
 second_of_front c (d ∷ rest) (suc (suc n)) e = let second : d ≡ 61 = cc in eq-eqb d 61 second
 
 -- a symbol of one character, where no longer token begins with it
-symbol_is_next : (c : ℕ) (rest : List ℕ) → is_symbol c ≡ true → starts_word c ≡ false → is_ascii_digit c ≡ false → (c == 61 && begins_with (λ d. d == 61) rest) ≡ false → (c == 45 && begins_with is_ascii_digit rest) ≡ false → IsNext (c ∷ rest) Symbol 1
-symbol_is_next c rest symbol no_word no_digit no_equality no_negative = record {
+symbol_is_next : (c : ℕ) (rest : List ℕ) → is_symbol c ≡ true → (c == 47) ≡ false → starts_word c ≡ false → is_ascii_digit c ≡ false → (c == 61 && begins_with (λ d. d == 61) rest) ≡ false → (c == 45 && begins_with is_ascii_digit rest) ≡ false → IsNext (c ∷ rest) Symbol 1
+symbol_is_next c rest symbol no_slash no_word no_digit no_equality no_negative = record {
   some = omega arith;
   within = omega arith;
   form = inl (refl, symbol);
@@ -199,6 +236,7 @@ symbol_is_next c rest symbol no_word no_digit no_equality no_negative = record {
     natural = λ m longer within h. false≢true (sym no_digit ∙ first_passes is_ascii_digit c rest m (omega arith) h);
     negative = λ m longer within e h. false≢true (sym no_negative ∙ and_from _ _ (eq-eqb c 45 e) (digits_after c rest m (omega arith) h));
     equality = λ m longer within e. false≢true (sym no_equality ∙ and_from _ _ (eq-eqb c 61 (first_of_front c rest m (omega arith) e)) (second_of_front c rest m e));
+    path = λ m longer within e _. false≢true (sym no_slash ∙ eq-eqb c 47 e);
   });
   name = λ e. cc;
   number = λ e. cc;
@@ -227,26 +265,34 @@ natural_says c rest digit = over (nat_le (natural_value (take_while is_ascii_dig
     over true e = subst (λ n. IsNext (c ∷ rest) Natural n) (sym (length-prefix_len is_ascii_digit (c ∷ rest))) (natural_is_next c rest digit (leb-true _ 9223372036854775807 e))
     over false e = tt
 
-symbol_says : (c : ℕ) (rest : List ℕ) → starts_word c ≡ false → is_ascii_digit c ≡ false → Says (c ∷ rest) (symbol_step c rest)
-symbol_says c rest no_word no_digit = over (c == 61 && begins_with (λ d. d == 61) rest) (c == 45 && begins_with is_ascii_digit rest) (is_symbol c) refl refl refl
+symbol_says : (c : ℕ) (rest : List ℕ) → (c == 47) ≡ false → starts_word c ≡ false → is_ascii_digit c ≡ false → Says (c ∷ rest) (symbol_step c rest)
+symbol_says c rest no_slash no_word no_digit = over (c == 61 && begins_with (λ d. d == 61) rest) (c == 45 && begins_with is_ascii_digit rest) (is_symbol c) refl refl refl
   where
     over : (equality negative symbol : Bool) → (c == 61 && begins_with (λ d. d == 61) rest) ≡ equality → (c == 45 && begins_with is_ascii_digit rest) ≡ negative → is_symbol c ≡ symbol → Says (c ∷ rest) (cond equality (Take Symbol 2) (cond negative Refuse (cond symbol (Take Symbol 1) Refuse)))
     over true negative symbol e f g = let parts = and_parts _ _ e in equality_is_next c rest (eqb-true c 61 parts.0) parts.1
     over false true symbol e f g = tt
-    over false false true e f g = symbol_is_next c rest g no_word no_digit e f
+    over false false true e f g = symbol_is_next c rest g no_slash no_word no_digit e f
     over false false false e f g = tt
+
+path_says : (c : ℕ) (rest : List ℕ) → c ≡ 47 → Says (c ∷ rest) (path_step (c ∷ rest))
+path_says c rest slash = over (are_steps_small (take (path_token_len rest) (c ∷ rest))) refl
+  where
+    over : (b : Bool) → are_steps_small (take (path_token_len rest) (c ∷ rest)) ≡ b → Says (c ∷ rest) (cond b (Take Path (path_token_len rest)) Refuse)
+    over true e = path_is_next c rest slash e
+    over false e = tt
 
 -- What `next` says holds.
 pub next_says : (left : List ℕ) → Says left (next left)
 unfolding next
 next_says [] = tt
-next_says (c ∷ rest) = over (is_blank c) (starts_word c) (is_ascii_digit c) refl refl
+next_says (c ∷ rest) = over (is_blank c) (starts_word c) (is_ascii_digit c) (c == 47) refl refl refl
   where
-    over : (blank word digit : Bool) → starts_word c ≡ word → is_ascii_digit c ≡ digit → Says (c ∷ rest) (cond blank (Skip 1) (cond word (word_step (prefix_len continues_word (c ∷ rest))) (cond digit (natural_step (take_while is_ascii_digit (c ∷ rest))) (symbol_step c rest))))
-    over true word digit e f = (omega arith, omega arith)
-    over false true digit e f = word_says c rest e
-    over false false true e f = natural_says c rest f
-    over false false false e f = symbol_says c rest e f
+    over : (blank word digit slash : Bool) → starts_word c ≡ word → is_ascii_digit c ≡ digit → (c == 47) ≡ slash → Says (c ∷ rest) (cond blank (Skip 1) (cond word (word_step (prefix_len continues_word (c ∷ rest))) (cond digit (natural_step (take_while is_ascii_digit (c ∷ rest))) (cond slash (path_step (c ∷ rest)) (symbol_step c rest)))))
+    over true word digit slash e f g = (omega arith, omega arith)
+    over false true digit slash e f g = word_says c rest e
+    over false false true slash e f g = natural_says c rest f
+    over false false false true e f g = path_says c rest (eqb-true c 47 g)
+    over false false false false e f g = symbol_says c rest g e f
 
 -- a taken token is the longest one, and within its limit
 pub longest_from_next : (left : List ℕ) (class : TokenClass) (n : ℕ) → next left ≡ Take class n → IsLongest left class n × IsTaken class (take n left)
@@ -263,8 +309,8 @@ digit_alone : (c : ℕ) → is_ascii_digit c ≡ true → (is_blank c ≡ false)
 digit_alone c digit = (grind (arith, nat_tests), grind (arith, nat_tests))
 
 -- a symbol is no blank, and begins neither a word nor a number
-symbol_alone : (c : ℕ) → is_symbol c ≡ true → (is_blank c ≡ false) × (starts_word c ≡ false) × (is_ascii_digit c ≡ false)
-symbol_alone c symbol = (grind (arith, nat_tests), grind (arith, nat_tests), grind (arith, nat_tests))
+symbol_alone : (c : ℕ) → is_symbol c ≡ true → (is_blank c ≡ false) × (starts_word c ≡ false) × (is_ascii_digit c ≡ false) × ((c == 47) ≡ false)
+symbol_alone c symbol = (grind (arith, nat_tests), grind (arith, nat_tests), grind (arith, nat_tests), grind (arith, nat_tests))
 
 -- the longest word is taken, where it is short enough
 word_taken : (left : List ℕ) (n : ℕ) → IsLongest left Word n → length (take n left) ≤ 64 → next left ≡ Take Word n
@@ -286,11 +332,6 @@ natural_taken (c ∷ rest) (suc n) token fits =
     let run : prefix_len is_ascii_digit (c ∷ rest) ≡ suc n = run_is is_ascii_digit (c ∷ rest) (suc n) token.within token.form.1 (λ longer passes. token.longest Natural _ longer (prefix_len-le-length is_ascii_digit (c ∷ rest)) (omega (arith, natural_some c rest digit, length-prefix_len is_ascii_digit (c ∷ rest)), passes)) in
     let text : take_while is_ascii_digit (c ∷ rest) ≡ take (suc n) (c ∷ rest) = ap (λ k. take k (c ∷ rest)) run in
     next_natural (c ∷ rest) (omega arith) alone.0 alone.1 digit ∙ ap natural_step text ∙ ap (λ b. cond b (Take Natural (length (take (suc n) (c ∷ rest)))) Refuse) (le-leb _ 9223372036854775807 fits) ∙ ap (Take Natural) (length-take-le (suc n) (c ∷ rest) token.within)
-
--- what isn't true is false
-false_from_not : (b : Bool) → ¬ (b ≡ true) → b ≡ false
-false_from_not true h = absurd (h refl)
-false_from_not false h = refl
 
 -- the first of two `=` isn't the longest token
 equality_longer : (c : ℕ) (rest : List ℕ) → (c == 61 && begins_with (λ d. d == 61) rest) ≡ true → IsLongest (c ∷ rest) Symbol 1 → ⊥
@@ -314,12 +355,12 @@ one_taken c rest symbol token =
     let alone = symbol_alone c symbol in
     let no_equality = false_from_not _ (λ both. equality_longer c rest both token) in
     let no_negative = false_from_not _ (λ both. negative_longer c rest both token) in
-    next_symbol (c ∷ rest) (omega arith) alone.0 alone.1 alone.2 ∙ rw (no_equality, no_negative, symbol) refl
+    next_symbol (c ∷ rest) (omega arith) alone.0 alone.1 alone.2 (λ e. false≢true (sym alone.3 ∙ eq-eqb c 47 e)) ∙ rw (no_equality, no_negative, symbol) refl
 
 -- two `=` are taken
 two_taken : (c : ℕ) (rest : List ℕ) → c ≡ 61 → begins_with (λ d. d == 61) rest ≡ true → next (c ∷ rest) ≡ Take Symbol 2
 two_taken c rest first second =
-    next_symbol (c ∷ rest) (omega arith) (subst (λ b. is_blank b ≡ false) (sym first) refl) (subst (λ b. starts_word b ≡ false) (sym first) refl) (subst (λ b. is_ascii_digit b ≡ false) (sym first) refl) ∙ ap (λ b. cond b (Take Symbol 2) (cond (c == 45 && begins_with is_ascii_digit rest) Refuse (cond (is_symbol c) (Take Symbol 1) Refuse))) (and_from _ _ (eq-eqb c 61 first) second)
+    next_symbol (c ∷ rest) (omega arith) (subst (λ b. is_blank b ≡ false) (sym first) refl) (subst (λ b. starts_word b ≡ false) (sym first) refl) (subst (λ b. is_ascii_digit b ≡ false) (sym first) refl) (λ e. absurd (omega arith)) ∙ ap (λ b. cond b (Take Symbol 2) (cond (c == 45 && begins_with is_ascii_digit rest) Refuse (cond (is_symbol c) (Take Symbol 1) Refuse))) (and_from _ _ (eq-eqb c 61 first) second)
 
 -- the longest symbol is taken
 symbol_taken : (left : List ℕ) (n : ℕ) → IsLongest left Symbol n → next left ≡ Take Symbol n
@@ -335,6 +376,22 @@ symbol_taken (c ∷ rest) (suc n) token =
           subst (λ k. next (c ∷ rest) ≡ Take Symbol k) both (two_taken c rest (first_of_front c rest (suc n) (omega arith) two) (second_of_front c rest (suc n) two))
     ]
 
+-- the longest path is taken, where its steps are small
+path_taken : (left : List ℕ) (n : ℕ) → IsLongest left Path n → are_steps_small (take n left) ≡ true → next left ≡ Take Path n
+path_taken left zero token small = absurd (false≢true token.form.0)
+path_taken [] (suc n) token small = absurd (false≢true token.form.0)
+path_taken (c ∷ rest) (suc n) token small =
+    let slash : c ≡ 47 = eqb-true c 47 token.form.0 in
+    let most : suc n ≤ path_token_len rest = path_most c rest (suc n) token.within token.form in
+    let all : path_token_len rest ≡ suc n =
+    elim (cases_lt (suc n) (path_token_len rest)) [
+      | inl shorter ↦ absurd (token.longest Path (path_token_len rest) shorter (path_within c rest) (path_form c rest slash))
+      | inr at_most ↦ omega arith
+    ] in
+    next_path (c ∷ rest) (omega arith) slash
+    ∙ ap (λ k. cond (are_steps_small (take k (c ∷ rest))) (Take Path k) Refuse) all
+    ∙ ap (λ b. cond b (Take Path (suc n)) Refuse) small
+
 -- the longest token within its limit is taken
 pub next_from_longest : (left : List ℕ) (class : TokenClass) (n : ℕ) → IsLongest left class n → IsTaken class (take n left) → next left ≡ Take class n
 next_from_longest left Word n token taken = word_taken left n token taken
@@ -343,4 +400,4 @@ next_from_longest left Symbol n token taken = symbol_taken left n token
 next_from_longest left Negative n token taken = absurd taken
 next_from_longest left NameLit n token taken = absurd taken
 next_from_longest left Text n token taken = absurd taken
-next_from_longest left Path n token taken = absurd taken
+next_from_longest left Path n token taken = path_taken left n token taken

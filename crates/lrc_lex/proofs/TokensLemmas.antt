@@ -8,7 +8,7 @@ use Rattle.lrc_lex.specs.declared.Token.{Token}
 use Rattle.lrc_lex.specs.declared.scan.Step.{Step}
 use Rattle.lrc_lex.specs.declared.scan.Step.TheVariants.{End, Skip, Take, Refuse}
 use Rattle.lrc_lex.specs.Tokens.{next, token_at, TokensFrom, ends, skips, takes, Tokens}
-use Rattle.lrc_lex.specs.Longest.{IsTokenOf}
+use Rattle.lrc_lex.specs.Longest.{IsTaken, IsTokenOf}
 use Rattle.lrc_lex.proofs.NextLemmas.{IsNext, Says, next_says}
 
 -- what the code reads at a place is what stands there
@@ -46,6 +46,7 @@ token_of text at n class within found =
       longest = λ other further longer inside h. found.longest other (further - at) (omega arith) (omega arith) h;
       name = λ e. rw bytes (found.name e);
       number = λ e. rw bytes (found.number e);
+      path = λ e. rw bytes (subst (λ k. IsTaken k (take n (drop at text))) e found.taken);
     }
 
 -- each token from a place on is the longest at its own

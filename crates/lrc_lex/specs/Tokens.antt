@@ -1,9 +1,9 @@
 -- The tokens of a text.
-use Rattle.std.specs.Prelude.{◌≡◌, ℕ, ◌+◌, ◌==◌, Bool, false, ◌&&◌, ◌||◌, if◌then◌else◌, nat_le, List, [], ◌∷◌, length, drop, codes}
+use Rattle.std.specs.Prelude.{◌≡◌, ℕ, suc, ◌+◌, ◌==◌, Bool, false, ◌&&◌, ◌||◌, if◌then◌else◌, nat_le, List, [], ◌∷◌, length, take, drop, codes}
 use Rattle.std.specs.Char.{is_ascii_digit, is_ascii_alphabetic, is_ascii_alphanumeric}
-use Rattle.std.specs.List.{prefix_len, take_while, list_any}
+use Rattle.std.specs.List.{prefix_len, take_while, list_any, list_all}
 use Rattle.lrc_lex.specs.declared.TokenClass.{TokenClass}
-use Rattle.lrc_lex.specs.declared.TokenClass.TheVariants.{Word, Natural, Symbol}
+use Rattle.lrc_lex.specs.declared.TokenClass.TheVariants.{Word, Natural, Path, Symbol}
 use Rattle.lrc_lex.specs.declared.Token.{Token}
 use Rattle.lrc_lex.specs.declared.scan.Step.{Step}
 use Rattle.lrc_lex.specs.declared.scan.Step.TheVariants.{End, Skip, Take, Refuse}
@@ -46,6 +46,35 @@ symbol_step c rest =
     else (if is_symbol c then Take Symbol 1
     else Refuse))
 
+-- a digit, or a `/`, which is 47, with a digit directly behind it
+abbrev pub continues_path : ℕ → List ℕ → Bool
+continues_path c rest = is_ascii_digit c || (c == 47 && begins_with is_ascii_digit rest)
+
+-- the length of the longest front in which each character continues a path
+abbrev pub path_len : List ℕ → ℕ
+path_len [] = 0
+path_len (c ∷ rest) = if continues_path c rest then suc (path_len rest) else 0
+
+-- the steps of a path: for each `/` that a digit follows, the value of the digits directly behind it
+abbrev pub path_steps : List ℕ → List ℕ
+path_steps [] = []
+path_steps (c ∷ rest) =
+    if c == 47 && begins_with is_ascii_digit rest then natural_value (take_while is_ascii_digit rest) ∷ path_steps rest
+    else path_steps rest
+
+-- each step of a path is at most 255
+abbrev pub are_steps_small : List ℕ → Bool
+are_steps_small bytes = list_all (λ step. nat_le step 255) (path_steps bytes)
+
+-- the length of the longest path whose `/` this follows: `/` alone where no digit follows
+abbrev pub path_token_len : List ℕ → ℕ
+path_token_len rest = if begins_with is_ascii_digit rest then suc (path_len rest) else 1
+
+-- the longest path at the front, whose steps are at most 255
+abbrev pub path_step : List ℕ → Step
+path_step left =
+    if are_steps_small (take (path_token_len (drop 1 left)) left) then Take Path (path_token_len (drop 1 left)) else Refuse
+
 -- what stands at the front of a text, by its first character; each run of characters is the longest
 unfoldable pub next : List ℕ → Step
 next [] = End
@@ -53,7 +82,8 @@ next (c ∷ rest) =
     if is_blank c then Skip 1
     else (if starts_word c then word_step (prefix_len continues_word (c ∷ rest))
     else (if is_ascii_digit c then natural_step (take_while is_ascii_digit (c ∷ rest))
-    else symbol_step c rest))
+    else (if c == 47 then path_step (c ∷ rest)
+    else symbol_step c rest)))
 
 -- the token of this class that begins at this place and has this many bytes
 abbrev pub token_at : TokenClass → ℕ → ℕ → Token

@@ -7,17 +7,19 @@ ghost use Rattle.lrc_lex.specs.declared.scan.Step.TheVariants.{Take};
 ghost use Rattle.lrc_lex.specs.Longest.{IsTokenOf, IsLongest, IsTaken};
 
 mod decimal;
+mod paths;
 mod scan;
 
 use crate::scan::{Step, next};
 pub use decimal::natural;
 use lrc_base::{List, Memory};
+pub use paths::path;
 use std::alloc::Global;
 
 /// The most bytes of a text.
 pub const TEXT_LIMIT: usize = 16_777_216;
 
-/// What a token is. So far only words, naturals and symbols are read.
+/// What a token is. So far only words, naturals, paths and symbols are read.
 #[derive(Debug, Clone, Copy, PartialEq, Eq)]
 pub enum TokenClass {
     /// A letter or `_`, then letters, digits and `_`: 64 bytes at most.
@@ -49,8 +51,8 @@ pub struct Token {
 pub enum LexFault {
     /// Memory ran out.
     Memory = 5,
-    /// Something stands in the text that isn't read: a comment, a token of another class, a word
-    /// or a natural past its limit, or a byte that begins no token.
+    /// Something stands in the text that isn't read: a comment, a token of another class, a word,
+    /// a natural or a step of a path past its limit, or a byte that begins no token.
     NotBuilt = 6,
 }
 
@@ -64,7 +66,7 @@ impl From<Memory> for LexFault {
     }
 }
 
-/// The tokens of the whole text, in order, for words, naturals and symbols that are separated by
+/// The tokens of the whole text, in order, for words, naturals, paths and symbols that are separated by
 /// spaces, tabs, line feeds and carriage returns.
 pub fn tokens(alloc: Global, text: &[u8]) -> Result<List<Token>, LexFault>
     requires { length text.now ≤ TEXT_LIMIT }
@@ -130,6 +132,21 @@ mod tests {
         Ok(())
     }
 
+    #[test]
+    fn takes_paths(rt: HostRuntime) -> Result<(), Fail> {
+        let found = tokens(rt.alloc(), b"//007/255/ /1a")?;
+        let mut wanted = List::new(rt.alloc());
+        wanted.push(token(TokenClass::Path, 0, 1))?;
+        wanted.push(token(TokenClass::Path, 1, 9))?;
+        wanted.push(token(TokenClass::Path, 9, 10))?;
+        wanted.push(token(TokenClass::Path, 11, 13))?;
+        wanted.push(token(TokenClass::Word, 13, 14))?;
+        assert_eq!(rt; found.as_slice(), wanted.as_slice());
+        let steps = path(rt.alloc(), b"/007/255")?.steps;
+        assert_eq!(rt; steps.as_slice(), b"\x07\xff".as_slice());
+        Ok(())
+    }
+
     fn token(class: TokenClass, at: u32, end: u32) -> Token {
         Token { class, at, end }
     }
@@ -141,7 +158,8 @@ mod tests {
             b"a # b".as_slice(),
             b"'a",
             b"\"a\"",
-            b"/1",
+            b"/256",
+            b"/0/999999999999999999999",
             b"a -1",
             b"a\xc3\xa9",
             b"a\0",

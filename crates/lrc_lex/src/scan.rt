@@ -1,10 +1,11 @@
-ghost use Rattle.std.specs.Prelude.{◌≡◌, ◌==◌, ◌≤◌, length};
+ghost use Rattle.std.specs.Prelude.{◌≡◌, ◌==◌, ◌+◌, ◌≤◌, length};
 ghost use Rattle.std.specs.Char.{is_ascii_digit};
 ghost use Rattle.std.specs.List.{prefix_len, take_while};
-ghost use Rattle.lrc_lex.specs.Tokens.{is_blank, starts_word, continues_word, is_symbol, begins_with, word_step, natural_step, symbol_step, next};
+ghost use Rattle.lrc_lex.specs.Tokens.{is_blank, starts_word, continues_word, is_symbol, begins_with, word_step, natural_step, symbol_step, path_token_len, path_step, next};
 
 use crate::TokenClass;
 use crate::decimal::value_of;
+use crate::paths::{are_steps_small, path_length};
 
 /// What stands at the front of a text: its end, something that separates tokens, a token, or
 /// something that isn't read. Lengths are of bytes.
@@ -46,7 +47,8 @@ fn is_symbol(byte: u8) -> bool
     SYMBOLS.contains(&byte)
 }
 
-fn begins_with_digit(text: &[u8]) -> bool
+/// Whether a digit stands at the front.
+pub fn begins_with_digit(text: &[u8]) -> bool
     ensures { result ≡ begins_with is_ascii_digit text.now }
 {
     !text.is_empty() && text[0].is_ascii_digit()
@@ -69,7 +71,7 @@ fn word_length(text: &[u8]) -> usize
 }
 
 /// The length of the longest run of digits.
-fn digits_length(text: &[u8]) -> usize
+pub fn digits_length(text: &[u8]) -> usize
     ensures length { result ≡ prefix_len is_ascii_digit text.now }
     ensures within { result ≤ length text.now }
 {
@@ -111,8 +113,33 @@ fn symbol(first: u8, rest: &[u8]) -> Step
     }
 }
 
+/// The length of the longest path, where `rest` follows its first `/`.
+fn path_token_length(rest: &[u8]) -> usize
+    ensures length { result ≡ path_token_len rest.now }
+    ensures within { result ≤ length rest.now + 1 }
+{
+    if begins_with_digit(rest) {
+        1 + path_length(rest)
+    } else {
+        1
+    }
+}
+
+/// The path at the front of the text, which begins with `/`.
+fn path(text: &[u8]) -> Step
+    requires some { 1 ≤ length text.now }
+    ensures { result ≡ path_step text.now }
+{
+    let length = path_token_length(&text[1..]);
+    if are_steps_small(&text[..length]) {
+        Step::Take(TokenClass::Path, length)
+    } else {
+        Step::Refuse
+    }
+}
+
 /// What stands at the front of the text.
-#[tactic(auto, using(crate::proofs::NextLemmas::next_end, crate::proofs::NextLemmas::next_blank, crate::proofs::NextLemmas::next_word, crate::proofs::NextLemmas::next_natural, crate::proofs::NextLemmas::next_symbol))]
+#[tactic(auto, using(crate::proofs::NextLemmas::next_end, crate::proofs::NextLemmas::next_blank, crate::proofs::NextLemmas::next_word, crate::proofs::NextLemmas::next_natural, crate::proofs::NextLemmas::next_path, crate::proofs::NextLemmas::next_symbol))]
 pub fn next(text: &[u8]) -> Step
     ensures { result ≡ next text.now }
 {
@@ -126,6 +153,8 @@ pub fn next(text: &[u8]) -> Step
         word(word_length(text))
     } else if first.is_ascii_digit() {
         number(text)
+    } else if first == b'/' {
+        path(text)
     } else {
         symbol(first, &text[1..])
     }
