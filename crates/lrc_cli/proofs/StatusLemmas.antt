@@ -6,6 +6,7 @@ use Rattle.std.specs.Io.KnownBytes.{Appends}
 use Rattle.lrc_outside.specs.Known.{TakesUpTo, AppendsPart}
 use Rattle.lrc_meaning.specs.Tree.{Tree}
 use Rattle.lrc_meaning.specs.Grammar.{Grammar}
+use Rattle.lrc_meaning.specs.Editing.{Change}
 use Rattle.lrc_cli.specs.Headline.{IsBuilt, IsRunOf}
 use Rattle.lrc_cli.specs.Status.{input_limit, IsReadWhole, Done, Unwritten, Refused, HoldsJob}
 use Rattle.lrc_cli.specs.Faults.{status_of}
@@ -35,21 +36,21 @@ unwritten left left' held held' input text t r a =
 
 -- what a run answers, at the bytes that were read
 abbrev pub Answers : List ℕ → Option (Vec ℕ Global) → Type 0
-Answers bytes o = MatchOption o ((g : Grammar) (t : Tree) → ¬ IsBuilt bytes g t) (λ text. IsRunOf bytes text.items)
+Answers bytes o = MatchOption o ((g : Grammar) (t : Tree) (cs : List Change) → ¬ IsBuilt bytes g t cs) (λ text. IsRunOf bytes text.items)
 
 pub answered : (bytes input : List ℕ) (o : Option (Vec ℕ Global)) (text : Vec ℕ Global) → Answers bytes o → o ≡ Some text → bytes ≡ input → IsRunOf input text.items
 answered bytes input o text a is same = subst (λ (z : List ℕ). IsRunOf z text.items) same (subst (Answers bytes) is a)
 
-pub not_answered : (bytes input : List ℕ) (o : Option (Vec ℕ Global)) → Answers bytes o → o ≡ None → bytes ≡ input → (g : Grammar) (t : Tree) → ¬ IsBuilt input g t
-not_answered bytes input o a is same g t = subst (λ (z : List ℕ). ¬ IsBuilt z g t) same (let none : Answers bytes None = subst (Answers bytes) is a in none g t)
+pub not_answered : (bytes input : List ℕ) (o : Option (Vec ℕ Global)) → Answers bytes o → o ≡ None → bytes ≡ input → (g : Grammar) (t : Tree) (cs : List Change) → ¬ IsBuilt input g t cs
+not_answered bytes input o a is same g t cs = subst (λ (z : List ℕ). ¬ IsBuilt z g t cs) same (let none : Answers bytes None = subst (Answers bytes) is a in none g t cs)
 
 -- a source that holds a job is not refused
 pub not_refused : (left left' : Option (List ℕ)) → HoldsJob left → ¬ Refused left left'
 not_refused None left' h r = h
 not_refused (Some bytes) left' h r =
-    let short : length bytes ≤ 16777216 = h.2.denotes.short in
+    let short : length bytes ≤ 16777216 = h.3.denotes.short in
     let whole : r.input ≡ bytes = r.read.0 ∙ take_all input_limit bytes (omega arith) in
-    r.not_built h.0 h.1 (subst (λ (z : List ℕ). IsBuilt z h.0 h.1) (sym whole) h.2)
+    r.not_built h.0 h.1 h.2 (subst (λ (z : List ℕ). IsBuilt z h.0 h.1 h.2) (sym whole) h.3)
 
 -- with no other fault the status is that of a run, or want of memory
 pub done_or_memory : (f : Failure) → f ≢ Usage → f ≢ Read → f ≢ Write → f ≢ NotBuilt → (status_of f ≡ 0) ⊎ (status_of f ≡ 7)

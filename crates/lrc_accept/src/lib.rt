@@ -1,0 +1,4 @@
+//! Which session a script is.
+#![tactic(auto)]
+mod accept;
+pub use accept::accepted;
