@@ -1,4 +1,0 @@
-//! Which session a script is.
-#![tactic(auto)]
-mod accept;
-pub use accept::accepted;
