@@ -51,6 +51,9 @@ pub built : (bytes : List ℕ) (job : Job) (script : RawScript) (g : Grammar) (t
 built bytes job script g t cs d is gr sc =
     record { job = job; script = script; denotes = d; one_session = is; of_grammar = gr; of_script = sc }
 
+pub script_of_built : (bytes : List ℕ) (g : Grammar) (t : Tree) (cs : List Change) (b : IsBuilt bytes g t cs) → IsScriptOf g b.script t cs
+script_of_built bytes g t cs b = b.of_script
+
 -- the text of the replies is that of the run
 pub run_of : (bytes text : List ℕ) (g : Grammar) (t : Tree) (edits : List Edit) (all : Replies) (attrs : List Attr) → IsBuilt bytes g t (map change edits) → IsSessionOf g depth_limit t edits all →
     attrs ≡ attrs_of_sort g.sorts g.start → text ≡ one_session attrs all → IsRunOf bytes text

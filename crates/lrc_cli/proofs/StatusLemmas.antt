@@ -1,5 +1,5 @@
 -- Lemmas on what the statuses say.
-use Rattle.std.proofs.Common.{◌≡◌, ℕ, ◌<◌, ◌≤◌, List, length, take, Option, Some, None, MatchOption, Vec, Global, ◌⊎◌, inr, ◌≢◌, refl, sym, arith, ap, ◌∙◌, subst}
+use Rattle.std.proofs.Common.{◌≡◌, ℕ, zero, suc, Bool, true, false, ◌<◌, ◌≤◌, List, length, take, Option, Some, None, MatchOption, Vec, Global, ◌⊎◌, inl, inr, ◌≢◌, refl, sym, arith, ap, ◌∙◌, subst}
 use Rattle.std.proofs.lemmas.List.{drop_all, take_all}
 use Rattle.std.proofs.lemmas.Grind.{common_steps}
 use Rattle.std.specs.Io.KnownBytes.{Appends}
@@ -9,7 +9,7 @@ use Rattle.lrc_meaning.specs.Grammar.{Grammar}
 use Rattle.lrc_meaning.specs.Editing.{Change}
 use Rattle.lrc_cli.specs.Headline.{IsBuilt, IsRunOf}
 use Rattle.lrc_cli.specs.Status.{input_limit, IsReadWhole, Done, Unwritten, Refused, HoldsJob}
-use Rattle.lrc_cli.specs.Faults.{status_of}
+use Rattle.lrc_cli.specs.Faults.{status_of, IsStatus}
 use Rattle.lrc_cli.specs.declared.failure.Failure.{Failure}
 use Rattle.lrc_cli.specs.declared.failure.Failure.TheVariants.{Usage, Read, Write, NotBuilt, Memory}
 
@@ -59,3 +59,34 @@ done_or_memory Read a b c d = absurd (b refl)
 done_or_memory Write a b c d = absurd (c refl)
 done_or_memory NotBuilt a b c d = absurd (d refl)
 done_or_memory Memory a b c d = inr refl
+
+pub is_failure : (f : Failure) → IsStatus (status_of f)
+unfolding IsStatus
+is_failure f = inr (f, refl)
+
+is_done : IsStatus 0
+unfolding IsStatus
+is_done = inl refl
+
+abbrev pub is_known : ℕ → Bool
+is_known zero = true
+is_known (suc zero) = false
+is_known (suc (suc zero)) = true
+is_known (suc (suc (suc zero))) = true
+is_known (suc (suc (suc (suc zero)))) = true
+is_known (suc (suc (suc (suc (suc zero))))) = true
+is_known (suc (suc (suc (suc (suc (suc zero)))))) = false
+is_known (suc (suc (suc (suc (suc (suc (suc zero))))))) = true
+is_known (suc (suc (suc (suc (suc (suc (suc (suc n)))))))) = false
+
+-- each number that is a status is one
+pub known_status : (n : ℕ) → is_known n ≡ true → IsStatus n
+known_status zero e = is_done
+known_status (suc zero) e = absurd (cc)
+known_status (suc (suc zero)) e = is_failure Usage
+known_status (suc (suc (suc zero))) e = is_failure Read
+known_status (suc (suc (suc (suc zero)))) e = is_failure Write
+known_status (suc (suc (suc (suc (suc zero))))) e = is_failure NotBuilt
+known_status (suc (suc (suc (suc (suc (suc zero)))))) e = absurd (cc)
+known_status (suc (suc (suc (suc (suc (suc (suc zero))))))) e = is_failure Memory
+known_status (suc (suc (suc (suc (suc (suc (suc (suc n)))))))) e = absurd (cc)
