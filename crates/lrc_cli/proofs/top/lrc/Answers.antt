@@ -1,4 +1,4 @@
-use Rattle.std.proofs.Common.{inl, inr, refl, sym, ◌∙◌, ap, subst, Err, ◌≡◌, ◌⊎◌, ℕ}
+use Rattle.std.proofs.Common.{refl, sym, ◌∙◌, ap, subst, Err, ◌≡◌, ◌⊎◌, ℕ}
 use Rattle.lrc_cli.specs.Faults.{line_of, IsStatus}
 use Rattle.lrc_cli.specs.declared.failure.Failure.{Failure}
 use Rattle.lrc_cli.specs.declared.failure.Failure.TheVariants.{Write}
