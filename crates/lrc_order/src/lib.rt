@@ -1,0 +1,38 @@
+//! Dependencies between attributes, and when a grammar is ordered: definitions, in `specs/`, and the
+//! plain data that they speak of.
+//!
+//! After Kastens, Ordered Attributed Grammars (1980).
+#![tactic(auto)]
+
+ghost use Rattle.std.specs.Prelude.{◌≡◌, [], ◌∷◌, Some, None};
+ghost use Rattle.lrc_meaning.specs.Examples.{declarations};
+
+use lrc_base::List;
+use lrc_graph::Relation;
+
+/// An occurrence of a production, `first`, that is needed before another, `then`.
+#[derive(Debug, Clone, Copy, PartialEq, Eq)]
+pub struct Need {
+    pub first: u32,
+    pub then: u32,
+}
+
+/// A place of a sort in a production: the left side, or a symbol. The occurrences of its attributes
+/// stand in a row from `start` on. At a nonterminal attribute `tree` is the occurrence of its value.
+#[derive(Debug, Clone, Copy, PartialEq, Eq)]
+pub struct Place {
+    pub sort: u32,
+    pub start: u32,
+    pub tree: Option<u32>,
+}
+
+/// What the ordered test finds of a sort.
+#[derive(Debug, Drop)]
+pub struct Partition {
+    /// How many visits it has, at least one.
+    pub visits: u32,
+    /// The visit of each attribute, counted from 1.
+    pub visit_of: List<u32>,
+    /// Which attribute comes before which.
+    pub before: Relation,
+}
