@@ -1,0 +1,4 @@
+pub mod LeastLemmas
+pub mod SetLemmas
+pub mod DeclarationsLemmas
+pub mod CrossingLemmas

@@ -4,8 +4,12 @@
 //! After Kastens, Ordered Attributed Grammars (1980).
 #![tactic(auto)]
 
-ghost use Rattle.std.specs.Prelude.{◌≡◌, [], ◌∷◌, Some, None};
+ghost use Rattle.std.specs.Prelude.{[]};
 ghost use Rattle.lrc_meaning.specs.Examples.{declarations};
+ghost use Rattle.lrc_order.specs.Induced.{Induced};
+ghost use Rattle.lrc_order.specs.Sets.{IsVisits, IsVisitOf};
+ghost use Rattle.lrc_order.specs.Ordered.{IsInducedCycle};
+ghost use Rattle.lrc_order.specs.Examples.{crossing};
 
 use lrc_base::List;
 use lrc_graph::Relation;
@@ -36,3 +40,19 @@ pub struct Partition {
     /// Which attribute comes before which.
     pub before: Relation,
 }
+
+/// In the declarations grammar the items' declarations come before their environment. So they have two
+/// visits: the first gives the declarations, the second takes the environment and gives what is bad.
+pub fn items_have_two_visits()
+    ensures induced { Induced declarations [] 1 0 1 }
+    ensures visits { IsVisits declarations [] 1 2 }
+    ensures decls { IsVisitOf declarations [] 1 2 0 1 }
+    ensures env { IsVisitOf declarations [] 1 2 1 2 }
+    ensures bad { IsVisitOf declarations [] 1 2 2 2 }
+{}
+
+/// The crossing grammar has no circular tree, but it is not ordered: over all contexts of X together
+/// its first attribute needs itself.
+pub fn crossing_is_not_ordered()
+    ensures { IsInducedCycle crossing [] 0 1 }
+{}
