@@ -51,13 +51,19 @@ extra_symbols sorts start [] = []
 extra_symbols sorts start (x ∷ xs) =
     cond x.attached (symbol_of x.kind (start + 1) (Some start)) [] ++ extra_symbols sorts (start + length (extra_occurrences sorts x)) xs
 
+-- how many occurrences children and how many locals and nonterminal attributes have
+abbrev pub kid_count : List Sort → List Kid → ℕ
+kid_count sorts kids = length (flat_map (λ (kid : Kid). map symbol_occurrence (attrs_of sorts kid.kind)) kids)
+
+abbrev pub extra_count : List Sort → List Extra → ℕ
+extra_count sorts extras = length (flat_map (extra_occurrences sorts) extras)
+
 -- the occurrence behind those of the left side, and the one behind those of the children
 abbrev pub own_end : List Sort → Production → ℕ
 own_end sorts p = length (attrs_of_sort sorts p.left)
 
 abbrev pub kids_end : List Sort → Production → ℕ
-kids_end sorts p =
-    own_end sorts p + length (flat_map (λ (kid : Kid). map symbol_occurrence (attrs_of sorts kid.kind)) p.kids)
+kids_end sorts p = own_end sorts p + kid_count sorts p.kids
 
 -- The symbols of a production, by number: the children whose kind is a sort, then the nonterminal attributes.
 abbrev pub symbols_of : List Sort → Production → List Place
