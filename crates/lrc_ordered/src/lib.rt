@@ -1,5 +1,6 @@
 //! The ordered test, after Kastens, Ordered Attributed Grammars (1980).
 #![tactic(auto)]
 
+mod gather;
 mod needs;
 mod places;

@@ -1,0 +1,47 @@
+-- Tables of pairs, one for each production or sort, and what passes over them add.
+use Rattle.std.specs.Prelude.{◌≡◌, ℕ, ◌+◌, ◌<◌, ◌≤◌, Bool, true, false, List, [], length, slice_index_or, Contains, All, ◌⊎◌, ◌↔◌}
+use Rattle.lrc_graph.specs.Pairs.{Pairs, Has, HasExactly, Path, IsTransitive}
+use Rattle.lrc_order.specs.declared.Place.{Place}
+
+-- the relation over no points
+abbrev pub nothing : Pairs
+nothing = record { points = 0; rows = [] }
+
+-- the table of this number
+abbrev pub table_at : List Pairs → ℕ → Pairs
+table_at tables i = slice_index_or tables i nothing
+
+abbrev pub HasAt : List Pairs → ℕ → ℕ → ℕ → Type 0
+HasAt tables i x y = Has (table_at tables i) x y
+
+-- A pass over a table added exactly the pairs of Extra, and found whether one of them was new.
+pub record Gathered (old new : Pairs) (found : Bool) (Extra : ℕ → ℕ → Type 0) : Type 0 where
+  pub points : new.points ≡ old.points
+  pub exact : HasExactly new (λ x y. Has old x y ⊎ Extra x y)
+  pub more : found ≡ true → (x : ℕ) × (y : ℕ) × Has new x y × ¬ Has old x y
+  pub same : found ≡ false → (x y : ℕ) → Has new x y → Has old x y
+
+-- A pass over tables, likewise.
+pub record GatheredAll (old new : List Pairs) (found : Bool) (Extra : ℕ → ℕ → ℕ → Type 0) : Type 0 where
+  pub tables : length new ≡ length old
+  pub points : (s : ℕ) → (table_at new s).points ≡ (table_at old s).points
+  pub exact : (s x y : ℕ) → HasAt new s x y ↔ (HasAt old s x y ⊎ Extra s x y)
+  pub more : found ≡ true → (s : ℕ) × (x : ℕ) × (y : ℕ) × HasAt new s x y × ¬ HasAt old s x y
+  pub same : found ≡ false → (s x y : ℕ) → HasAt new s x y → HasAt old s x y
+
+-- a relation on a production's occurrences has the pair of attributes at this start
+pub record JoinedAt (points : ℕ) (relation : Pairs) (start x y : ℕ) : Type 0 where
+  pub x_in : x < points
+  pub y_in : y < points
+  pub pair : Has relation (start + x) (start + y)
+
+-- and it does at one of the places
+pub record JoinedAmong (sorts : List Pairs) (relation : Pairs) (places : List Place) (s x y : ℕ) : Type 0 where
+  pub place : Place
+  pub is_place : Contains places place
+  pub of_sort : place.sort ≡ s
+  pub joined : JoinedAt (table_at sorts s).points relation place.start x y
+
+-- each place is one of a sort with a table, and its attributes are points
+abbrev pub FitsIn : List Pairs → ℕ → Place → Type 0
+FitsIn sorts points place = (place.sort < length sorts) × (place.start + (table_at sorts place.sort).points ≤ points)
