@@ -4,7 +4,7 @@ use Rattle.std.proofs.lemmas.Bool.{cases_eq, cases_lt, true≢false}
 use Rattle.std.proofs.lemmas.List.Elements.{Contains-append_left, Contains-push, Contains-push_cases}
 use Rattle.lrc_graph.specs.Pairs.{Pairs, Has, HasExactly}
 use Rattle.lrc_order.specs.declared.Place.{Place}
-use Rattle.lrc_ordered.specs.Tables.{nothing, table_at, HasAt, Gathered, GatheredAll, JoinedAt, JoinedAmong}
+use Rattle.lrc_ordered.specs.Tables.{nothing, table_at, HasAt, Gathered, GatheredAll, JoinedAt, JoinedAmong, JoinedIn, FitsIn}
 
 -- an item that is there is the same whatever stands for one that is not
 pub same_item : {X : Type 0} (xs : List X) (i : ℕ) (d e : X) → i < length xs → get_or xs i d ≡ get_or xs i e
@@ -113,7 +113,9 @@ module _ (old now : List Pairs) (found r : Bool) (E F : ℕ → ℕ → ℕ → 
         | inl f ↦ let m = before.more f in (m.0, m.1, m.2, grows m.0 m.1 m.2 m.3, m.4)
         | inr f ↦
             let m = pass.more f in (
-              s, m.0, m.1,
+              s,
+              m.0,
+              m.1,
               subst (λ (table : Pairs). Has table m.0 m.1) (sym (at_same s refl)) m.2,
               λ h. m.3 ((before.exact s m.0 m.1).1 (inl h)),
             )
@@ -150,17 +152,89 @@ joined_more sorts relation places i place h e t x y = (
             inr (
               sym j.of_sort ∙ ap (λ (q : Place). q.sort) (sym same),
               subst (λ (q : Place). JoinedAt (table_at sorts q.sort).points relation q.start x y) (sym same)
-              (subst (λ k. JoinedAt (table_at sorts k).points relation j.place.start x y) (sym j.of_sort) j.joined),
+                  (subst (λ k. JoinedAt (table_at sorts k).points relation j.place.start x y) (sym j.of_sort) j.joined),
             )
       ],
   λ j.
       elim j [
         | inl m ↦ record { place = m.place; is_place = (contains_more places i place m.place h e).1 (inl m.is_place); of_sort = m.of_sort; joined = m.joined }
         | inr m ↦ record {
-            place = place;
-            is_place = (contains_more places i place place h e).1 (inr refl);
-            of_sort = sym m.0;
-            joined = subst (λ k. JoinedAt (table_at sorts k).points relation place.start x y) (sym m.0) m.1;
-          }
+          place = place;
+          is_place = (contains_more places i place place h e).1 (inr refl);
+          of_sort = sym m.0;
+          joined = subst (λ k. JoinedAt (table_at sorts k).points relation place.start x y) (sym m.0) m.1;
+        }
       ],
 )
+
+-- a pass over all tables after another
+pub gathered_then : (old now new : List Pairs) (found r : Bool) (E G F : ℕ → ℕ → ℕ → Type 0) → GatheredAll old now found E → GatheredAll now new r G
+    → ((t x y : ℕ) → F t x y ↔ (E t x y ⊎ G t x y)) → GatheredAll old new (found || r) F
+gathered_then old now new found r E G F one other all = record {
+  tables = other.tables ∙ one.tables;
+  points = λ t. other.points t ∙ one.points t;
+  exact = λ t x y. (
+    λ h.
+        elim ((other.exact t x y).0 h) [
+          | inl p ↦ elim ((one.exact t x y).0 p) [ inl q ↦ inl q | inr q ↦ inr ((all t x y).1 (inl q)) ]
+          | inr p ↦ inr ((all t x y).1 (inr p))
+        ],
+    λ h.
+        (other.exact t x y).1
+        (elim h [
+          | inl p ↦ inl ((one.exact t x y).1 (inl p))
+          | inr f ↦ elim ((all t x y).0 f) [ inl q ↦ inl ((one.exact t x y).1 (inr q)) | inr q ↦ inr q ]
+        ]),
+  );
+  more = λ e.
+      elim (or_true found r e) [
+        | inl f ↦ let m = one.more f in (m.0, m.1, m.2, (other.exact m.0 m.1 m.2).1 (inl m.3), m.4)
+        | inr f ↦ let m = other.more f in (m.0, m.1, m.2, m.3, λ h. m.4 ((one.exact m.0 m.1 m.2).1 (inl h)))
+      ];
+  same = λ e t x y h. let none = or_false found r e in one.same none.0 t x y (other.same none.1 t x y h);
+}
+
+-- where only points count, tables with as many give the same
+pub same_joined : (old now : List Pairs) (relation : Pairs) (places : List Place) → ((t : ℕ) → (table_at now t).points ≡ (table_at old t).points)
+    → (t x y : ℕ) → JoinedAmong now relation places t x y ↔ JoinedAmong old relation places t x y
+same_joined old now relation places points t x y = (
+  λ j. record { place = j.place; is_place = j.is_place; of_sort = j.of_sort; joined = subst (λ n. JoinedAt n relation j.place.start x y) (points t) j.joined },
+  λ j. record { place = j.place; is_place = j.is_place; of_sort = j.of_sort; joined = subst (λ n. JoinedAt n relation j.place.start x y) (sym (points t)) j.joined },
+)
+
+pub same_fits : (old now : List Pairs) (points : ℕ) → length now ≡ length old → ((t : ℕ) → (table_at now t).points ≡ (table_at old t).points)
+    → (place : Place) → FitsIn old points place → FitsIn now points place
+same_fits old now points len same place h = let e = same place.sort in let one = h.0 in let two = h.1 in (omega arith, omega arith)
+
+module _ (sorts relations : List Pairs) (places : List (List Place)) where
+  abbrev pub JoinedBelow : ℕ → ℕ → ℕ → ℕ → Type 0
+  JoinedBelow n s x y = (j : JoinedIn sorts relations places s x y) × (j.production < n)
+
+  -- one production more
+  pub joined_below_more : (n s x y : ℕ) → n < length relations
+      → JoinedBelow (n + 1) s x y ↔ (JoinedBelow n s x y ⊎ JoinedAmong sorts (table_at relations n) (get_or places n []) s x y)
+  joined_below_more n s x y there = (
+    λ j.
+        elim (cases_eq j.0.production n) [
+          | inl e ↦ inr (subst (λ i. JoinedAmong sorts (table_at relations i) (get_or places i []) s x y) e j.0.joined)
+          | inr ne ↦ let less = j.1 in inl (j.0, omega arith)
+        ],
+    λ j.
+        elim j [
+          | inl m ↦ let less = m.1 in (m.0, omega arith)
+          | inr m ↦ (record { production = n; is_there = there; joined = m }, omega arith)
+        ],
+  )
+
+pub gathered_change : (old now : List Pairs) (found : Bool) (E F : ℕ → ℕ → ℕ → Type 0) → GatheredAll old now found E
+    → ((t x y : ℕ) → E t x y ↔ F t x y) → GatheredAll old now found F
+gathered_change old now found E F one same = record {
+  tables = one.tables;
+  points = one.points;
+  exact = λ t x y. (
+    λ h. elim ((one.exact t x y).0 h) [ inl p ↦ inl p | inr p ↦ inr ((same t x y).0 p) ],
+    λ h. (one.exact t x y).1 (elim h [ inl p ↦ inl p | inr p ↦ inr ((same t x y).1 p) ]),
+  );
+  more = one.more;
+  same = one.same;
+}

@@ -1,3 +1,4 @@
 pub mod PlaceLemmas
 pub mod NeedLemmas
 pub mod GatherLemmas
+pub mod SpreadLemmas

@@ -45,3 +45,29 @@ pub record JoinedAmong (sorts : List Pairs) (relation : Pairs) (places : List Pl
 -- each place is one of a sort with a table, and its attributes are points
 abbrev pub FitsIn : List Pairs → ℕ → Place → Type 0
 FitsIn sorts points place = (place.sort < length sorts) × (place.start + (table_at sorts place.sort).points ≤ points)
+
+-- and it does in one of the productions
+pub record JoinedIn (sorts relations : List Pairs) (places : List (List Place)) (s x y : ℕ) : Type 0 where
+  pub production : ℕ
+  pub is_there : production < length relations
+  pub joined : JoinedAmong sorts (table_at relations production) (slice_index_or places production []) s x y
+
+-- A pass over a closed table added the pairs of Extra and closed it again.
+pub record Closed (old new : Pairs) (Extra : ℕ → ℕ → Type 0) : Type 0 where
+  pub points : new.points ≡ old.points
+  pub exact : HasExactly new (Path (λ x y. Has old x y ⊎ Extra x y))
+  pub closed : IsTransitive (Has new)
+
+-- a sort's relation hands the pair to a place with this start
+pub record HandedAt (sort : Pairs) (start x y : ℕ) : Type 0 where
+  pub first : ℕ
+  pub then : ℕ
+  pub pair : Has sort first then
+  pub x_is : x ≡ start + first
+  pub y_is : y ≡ start + then
+
+-- and it does to one of the places
+pub record HandedAmong (sorts : List Pairs) (places : List Place) (x y : ℕ) : Type 0 where
+  pub place : Place
+  pub is_place : Contains places place
+  pub handed : HandedAt (table_at sorts place.sort) place.start x y

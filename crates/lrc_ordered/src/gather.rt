@@ -1,19 +1,14 @@
-ghost use Rattle.std.specs.Prelude.{◌≡◌, ◌+◌, ◌<◌, ◌≤◌, ◌⊎◌, All};
-ghost use Rattle.lrc_graph.specs.Pairs.{Has};
-ghost use Rattle.lrc_ordered.specs.Tables.{Gathered, GatheredAll, JoinedAt, JoinedAmong, FitsIn};
+ghost use Rattle.std.specs.Prelude.{◌≡◌, ℕ, ◌+◌, ◌<◌, ◌≤◌, ◌⊎◌, All, [], length, slice_index_or};
+ghost use Rattle.lrc_graph.specs.Pairs.{Pairs, Has};
+ghost use Rattle.lrc_ordered.specs.Tables.{Gathered, GatheredAll, JoinedAt, JoinedAmong, JoinedIn, FitsIn, table_at};
 
+use lrc_base::List;
 use lrc_graph::Relation;
 use lrc_order::Place;
 
 /// Pairs two attributes of a sort where a production's relation pairs their occurrences at a place
 /// that starts there. The answer is whether the pair was new.
-fn gather_pair(
-    sort: &mut Relation,
-    relation: &Relation,
-    start: u32,
-    first: u32,
-    then: u32,
-) -> bool
+fn gather_pair(sort: &mut Relation, relation: &Relation, start: u32, first: u32, then: u32) -> bool
     requires few { relation.now.points < 1024 }
     requires within { start + sort.old.points ≤ relation.now.points }
     requires attributes { (first < sort.old.points) × (then < sort.old.points) }
@@ -62,6 +57,20 @@ fn gather_places(sorts: &mut [Relation], relation: &Relation, places: &[Place]) 
     let mut found = false;
     'places: for place in places {
         found |= gather_place(&mut sorts[place.sort as usize], relation, place.start);
+    }
+    found
+}
+
+/// The same in each production. The answer is whether a pair was new.
+pub fn gather(sorts: &mut [Relation], relations: &[Relation], places: &[List<Place>]) -> bool
+    requires productions { length places.now ≡ length relations.now }
+    requires few { All (λ (r : Pairs). r.points < 1024) relations.now }
+    requires within { (i : ℕ) → i < length relations.now → All (FitsIn sorts.old (table_at relations.now i).points) (slice_index_or places.now i []) }
+    ensures { GatheredAll sorts.old sorts.new result (JoinedIn sorts.old relations.now places.now) }
+{
+    let mut found = false;
+    'productions: for production in 0..relations.len() {
+        found |= gather_places(sorts, &relations[production], places[production].as_slice());
     }
     found
 }

@@ -4,3 +4,4 @@
 mod gather;
 mod needs;
 mod places;
+mod spread;
