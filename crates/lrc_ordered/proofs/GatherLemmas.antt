@@ -107,10 +107,10 @@ module _ (old now : List Pairs) (found r : Bool) (E F : ℕ → ℕ → ℕ → 
         | inr ne ↦ ap (λ (p : Pairs). p.points) (at_other t ne) ∙ before.points t
       ]
 
-  more : (found || r) ≡ true → (t : ℕ) × (x : ℕ) × (y : ℕ) × HasAt after t x y × ¬ HasAt old t x y
+  more : (found || r) ≡ true → (t : ℕ) × (x : ℕ) × (y : ℕ) × HasAt after t x y × (¬ HasAt old t x y) × (t < length old) × (x < (table_at old t).points) × (y < (table_at old t).points)
   more e =
       elim (or_true found r e) [
-        | inl f ↦ let m = before.more f in (m.0, m.1, m.2, grows m.0 m.1 m.2 m.3, m.4)
+        | inl f ↦ let m = before.more f in (m.0, m.1, m.2, grows m.0 m.1 m.2 m.3, m.4, m.5, m.6, m.7)
         | inr f ↦
             let m = pass.more f in (
               s,
@@ -118,6 +118,9 @@ module _ (old now : List Pairs) (found r : Bool) (E F : ℕ → ℕ → ℕ → 
               m.1,
               subst (λ (table : Pairs). Has table m.0 m.1) (sym (at_same s refl)) m.2,
               λ h. m.3 ((before.exact s m.0 m.1).1 (inl h)),
+              (let e = before.tables in omega arith),
+              (let e = before.points s in let small = m.4 in omega arith),
+              (let e = before.points s in let small = m.5 in omega arith),
             )
       ]
 
@@ -188,8 +191,13 @@ gathered_then old now new found r E G F one other all = record {
   );
   more = λ e.
       elim (or_true found r e) [
-        | inl f ↦ let m = one.more f in (m.0, m.1, m.2, (other.exact m.0 m.1 m.2).1 (inl m.3), m.4)
-        | inr f ↦ let m = other.more f in (m.0, m.1, m.2, m.3, λ h. m.4 ((one.exact m.0 m.1 m.2).1 (inl h)))
+        | inl f ↦ let m = one.more f in (m.0, m.1, m.2, (other.exact m.0 m.1 m.2).1 (inl m.3), m.4, m.5, m.6, m.7)
+        | inr f ↦ let m = other.more f in
+            let e = one.tables in
+            let same = one.points m.0 in
+            let there = m.5 in
+            let x_in = m.6 in
+            let y_in = m.7 in (m.0, m.1, m.2, m.3, λ h. m.4 ((one.exact m.0 m.1 m.2).1 (inl h)), omega arith, omega arith, omega arith)
       ];
   same = λ e t x y h. let none = or_false found r e in one.same none.0 t x y (other.same none.1 t x y h);
 }

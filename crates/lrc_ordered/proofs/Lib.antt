@@ -2,3 +2,5 @@ pub mod PlaceLemmas
 pub mod NeedLemmas
 pub mod GatherLemmas
 pub mod SpreadLemmas
+pub mod MissingLemmas
+pub mod SettleLemmas

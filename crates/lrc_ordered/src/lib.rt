@@ -4,4 +4,5 @@
 mod gather;
 mod needs;
 mod places;
+mod settle;
 mod spread;
