@@ -1,13 +1,25 @@
 -- When a grammar is ordered with given pairs, where it is not, and its partitions.
 use Rattle.std.specs.Prelude.{◌≡◌, ℕ, ◌<◌, List, length, Some, slice_get, slice_index, take, All}
+use Rattle.lrc_base.specs.declared.grammar.Sort.{Sort}
 use Rattle.lrc_base.specs.declared.grammar.Production.{Production}
 use Rattle.lrc_base.specs.declared.grammar.Given.{Given}
-use Rattle.lrc_meaning.specs.Grammar.{Grammar, attrs_of_sort}
+use Rattle.lrc_meaning.specs.Grammar.{Grammar, attrs_of_sort, occurrences_of}
 use Rattle.lrc_graph.specs.Pairs.{IsLeast, HasExactly}
 use Rattle.lrc_order.specs.declared.Partition.{Partition}
 use Rattle.lrc_order.specs.Induced.{Leads}
 use Rattle.lrc_order.specs.Sets.{IsVisits, IsVisitOf, Before}
 use Rattle.lrc_order.specs.Extended.{ExtendedPath}
+
+-- Productions and sorts have few enough occurrences and attributes for the tables of the test.
+pub record IsSmall (g : Grammar) : Type 0 where
+  pub occurrences : All (λ p. length (occurrences_of g.sorts p) < 1024) g.prods
+  pub attributes : All (λ (s : Sort). length s.attrs < 1024) g.sorts
+
+-- the pair is of attributes of a sort that is there
+pub record IsGivenThere (sorts : List Sort) (x : Given) : Type 0 where
+  pub sort : x.sort < length sorts
+  pub first : x.first < length (attrs_of_sort sorts x.sort)
+  pub then : x.then < length (attrs_of_sort sorts x.sort)
 
 -- no path leads from an occurrence back to it
 abbrev pub IsAcyclic : (ℕ → ℕ → Type 0) → Type 0

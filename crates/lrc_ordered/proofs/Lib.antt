@@ -4,3 +4,4 @@ pub mod GatherLemmas
 pub mod SpreadLemmas
 pub mod MissingLemmas
 pub mod SettleLemmas
+pub mod RangeLemmas

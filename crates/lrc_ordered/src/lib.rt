@@ -5,4 +5,5 @@ mod gather;
 mod needs;
 mod places;
 mod settle;
+mod setup;
 mod spread;
