@@ -5,3 +5,4 @@ pub mod SpreadLemmas
 pub mod MissingLemmas
 pub mod SettleLemmas
 pub mod RangeLemmas
+pub mod SetupLemmas

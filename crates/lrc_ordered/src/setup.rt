@@ -7,6 +7,7 @@ ghost use Rattle.lrc_meaning.specs.Grammar.{occurrences_of};
 ghost use Rattle.lrc_order.specs.Needs as order;
 ghost use Rattle.lrc_order.specs.Needs.{need};
 ghost use Rattle.lrc_ordered.specs.Setup.{IsNeedBelow, HasNeeds, IsEmptyTable, IsAmong, IsIn};
+ghost use Rattle.lrc_ordered.specs.Tables.{table_at, HasAt};
 
 use crate::needs::needs_of;
 use crate::places::places_of;
@@ -134,4 +135,18 @@ fn is_in(places: &[List<Place>], sort: u32) -> bool
         }
     }
     false
+}
+
+/// Pairs the attributes of each given pair of a sort that stands at some place.
+pub fn add_given(tables: &mut [Relation], places: &[List<Place>], given: &[Given])
+    requires { All (λ (g : base_given.Given). (g.sort < length tables.old) × (g.first < (table_at tables.old g.sort).points) × (g.then < (table_at tables.old g.sort).points)) given.now }
+    ensures number { length tables.new ≡ length tables.old }
+    ensures points { (s : ℕ) → (table_at tables.new s).points ≡ (table_at tables.old s).points }
+    ensures pairs { (s x y : ℕ) → HasAt tables.new s x y ↔ (HasAt tables.old s x y ⊎ (Contains given.now (record { sort = s; first = x; then = y }) × IsIn places.now s)) }
+{
+    'given: for pair in given {
+        if is_in(places, pair.sort) {
+            tables[pair.sort as usize].add(pair.first, pair.then);
+        }
+    }
 }
