@@ -6,3 +6,4 @@ pub mod MissingLemmas
 pub mod SettleLemmas
 pub mod RangeLemmas
 pub mod SetupLemmas
+pub mod BridgeLemmas

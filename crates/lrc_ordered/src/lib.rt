@@ -2,6 +2,7 @@
 #![tactic(auto)]
 
 mod gather;
+mod induce;
 mod needs;
 mod places;
 mod settle;

@@ -20,5 +20,9 @@ loop-i-preserved c =
     subst (λ ts. AllZip (HasNeeds c.args.sorts.now) (take (c.loop-i.i + 1) c.args.prods.now) ts) (sym c.in_ok-push.ensures.items)
     (zip_more (HasNeeds c.args.sorts.now) c.args.prods.now c.loop-i.tables.items c.loop-i.i c.index-prods-i.result c.close.new.self
     c.loop-i-test.true c.index-prods-i.is c.loop-i.invariant
-    (record { points = c.close.ensures.points ∙ c.in_ok-relation.ensures.points; closed = c.close.ensures.closed; pairs = paths_of c.in_ok-relation.relation c.close.new.self (λ x y. Contains (needs_of sorts c.index-prods-i.result) (need x y))
-    (subst (λ (ns : List Need). HasExactly c.in_ok-relation.relation (λ x y. Contains ns (need x y))) list c.in_ok-relation.ensures.pairs) c.close.ensures.pairs }))
+    (record {
+      points = c.close.ensures.points ∙ c.in_ok-relation.ensures.points;
+      closed = c.close.ensures.closed;
+      pairs = paths_of c.in_ok-relation.relation c.close.new.self (λ x y. Contains (needs_of sorts c.index-prods-i.result) (need x y))
+          (subst (λ (ns : List Need). HasExactly c.in_ok-relation.relation (λ x y. Contains ns (need x y))) list c.in_ok-relation.ensures.pairs) c.close.ensures.pairs;
+    }))
