@@ -10,8 +10,9 @@ use Rattle.lrc_order.specs.Induced.{Leads}
 use Rattle.lrc_order.specs.Sets.{IsVisits, IsVisitOf, Before}
 use Rattle.lrc_order.specs.Extended.{ExtendedPath}
 
--- Productions and sorts have few enough occurrences and attributes for the tables of the test.
+-- There are few enough productions, occurrences of each, and attributes of each sort for the tables of the test.
 pub record IsSmall (g : Grammar) : Type 0 where
+  pub productions : length g.prods < 1024
   pub occurrences : All (λ p. length (occurrences_of g.sorts p) < 1024) g.prods
   pub attributes : All (λ (s : Sort). length s.attrs < 1024) g.sorts
 

@@ -7,3 +7,4 @@ pub mod SettleLemmas
 pub mod RangeLemmas
 pub mod SetupLemmas
 pub mod BridgeLemmas
+pub mod CycleLemmas

@@ -1,3 +1,5 @@
 pub mod Tables
 pub mod Missing
 pub mod Setup
+pub mod Cycles
+pub mod Faults

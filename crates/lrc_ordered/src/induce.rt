@@ -1,10 +1,14 @@
-ghost use Rattle.std.specs.Prelude.{◌≡◌, ℕ, ◌<◌, ◌⊎◌, ◌↔◌, length, Contains, All, IfOk};
-ghost use Rattle.lrc_order.specs.Ordered.{IsSmall, IsGivenThere};
+ghost use Rattle.std.specs.Prelude.{◌≡◌, ℕ, ◌<◌, ◌⊎◌, ◌↔◌, length, Contains, All, IfOk, OnOk, IfErr};
+ghost use Rattle.lrc_order.specs.Ordered.{IsSmall, IsGivenThere, IsAcyclic};
+ghost use Rattle.lrc_order.specs.Induced.{Leads};
+ghost use Rattle.lrc_ordered.specs.Faults.{IsInducedFault};
 ghost use Rattle.lrc_grammar.specs.Grammar.{grammar_of};
 ghost use Rattle.lrc_ordered.specs.Setup.{AreInduced, IsIn};
 ghost use Rattle.lrc_ordered.specs.Tables.{table_at, HasAt, AreTables, AreSettled};
 ghost use Rattle.lrc_base.specs.declared.grammar.Given as base;
 
+use crate::cycles::first_cycle;
+use crate::faults::OrderFault;
 use crate::settle::settle;
 use crate::setup::{add_given, all_needs, all_places, closed_tables, empty_tables};
 use lrc_base::{Given, List, Memory};
@@ -73,4 +77,33 @@ pub fn induced(alloc: Global, grammar: &Grammar, given: &[Given]) -> Result<Tabl
         relations,
         sorts,
     })
+}
+
+/// The tables of the induced dependencies of a grammar with given pairs, where they have no cycle.
+///
+/// # Errors
+///
+/// Induced exactly where some production has a cycle: the first one, and its least occurrence on one.
+/// Else want of memory.
+pub fn acyclic_induced(
+    alloc: Global,
+    grammar: &Grammar,
+    given: &[Given],
+) -> Result<Tables, OrderFault>
+    requires small { IsSmall (grammar_of grammar.now) }
+    requires there { All (IsGivenThere grammar.now.sorts) given.now }
+    ensures tables { IfOk result (λ t. AreInduced (grammar_of grammar.now) given.now t.places t.needs t.relations.items t.sorts.items) }
+    ensures acyclic { OnOk result (All (λ p. IsAcyclic (Leads (grammar_of grammar.now) given.now p)) grammar.now.prods) }
+    ensures fault { IfErr result (IsInducedFault (grammar_of grammar.now) given.now) }
+{
+    let Ok(tables) = induced(alloc, grammar, given) else {
+        return Err(OrderFault::Memory);
+    };
+    match first_cycle(tables.relations.as_slice()) {
+        Some(cycle) => Err(OrderFault::Induced {
+            production: cycle.production,
+            occurrence: cycle.occurrence,
+        }),
+        None => Ok(tables),
+    }
 }

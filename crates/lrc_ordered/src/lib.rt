@@ -1,6 +1,8 @@
 //! The ordered test, after Kastens, Ordered Attributed Grammars (1980).
 #![tactic(auto)]
 
+mod cycles;
+mod faults;
 mod gather;
 mod induce;
 mod needs;
@@ -8,3 +10,6 @@ mod places;
 mod settle;
 mod setup;
 mod spread;
+
+pub use faults::OrderFault;
+pub use induce::{Tables, acyclic_induced};
