@@ -3,3 +3,4 @@ pub mod Missing
 pub mod Setup
 pub mod Cycles
 pub mod Faults
+pub mod Examples

@@ -10,6 +10,8 @@ mod places;
 mod settle;
 mod setup;
 mod spread;
+#[cfg(test)]
+mod tests;
 
 pub use faults::OrderFault;
 pub use induce::{Tables, acyclic_induced};
