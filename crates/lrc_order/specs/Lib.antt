@@ -4,3 +4,4 @@ pub mod Sets
 pub mod Extended
 pub mod Ordered
 pub mod Examples
+pub mod Laws

@@ -10,6 +10,7 @@ ghost use Rattle.lrc_order.specs.Induced.{Induced};
 ghost use Rattle.lrc_order.specs.Sets.{IsVisits, IsVisitOf};
 ghost use Rattle.lrc_order.specs.Ordered.{IsInducedCycle};
 ghost use Rattle.lrc_order.specs.Examples.{crossing};
+ghost use Rattle.lrc_order.specs.Laws.{AreTransitive, OneLookTells};
 
 use lrc_base::List;
 use lrc_graph::Relation;
@@ -55,4 +56,12 @@ pub fn items_have_two_visits()
 /// its first attribute needs itself.
 pub fn crossing_is_not_ordered()
     ensures { IsInducedCycle crossing [] 0 1 }
+{}
+
+/// The induced dependencies of a sort are transitive, where the given pairs are of attributes that are
+/// there; so an attribute is in a greatest set exactly where it and each that must come after it and is
+/// not earlier are of the set's direction.
+pub fn one_look_tells_a_set()
+    ensures transitive { AreTransitive }
+    ensures greatest { OneLookTells }
 {}
