@@ -8,3 +8,4 @@ pub mod RangeLemmas
 pub mod SetupLemmas
 pub mod BridgeLemmas
 pub mod CycleLemmas
+pub mod TurnLemmas

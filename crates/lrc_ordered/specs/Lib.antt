@@ -4,3 +4,4 @@ pub mod Setup
 pub mod Cycles
 pub mod Faults
 pub mod Examples
+pub mod Turns

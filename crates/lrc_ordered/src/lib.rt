@@ -12,6 +12,7 @@ mod setup;
 mod spread;
 #[cfg(test)]
 mod tests;
+mod turns;
 
 pub use faults::OrderFault;
 pub use induce::{Tables, acyclic_induced};
