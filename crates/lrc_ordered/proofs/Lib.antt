@@ -9,3 +9,4 @@ pub mod SetupLemmas
 pub mod BridgeLemmas
 pub mod CycleLemmas
 pub mod TurnLemmas
+pub mod NumberedLemmas

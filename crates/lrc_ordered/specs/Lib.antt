@@ -5,3 +5,4 @@ pub mod Cycles
 pub mod Faults
 pub mod Examples
 pub mod Turns
+pub mod Numbered
