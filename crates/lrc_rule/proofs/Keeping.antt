@@ -14,7 +14,7 @@ use Rattle.atomic_table.proofs.Lists.{at_set, set_else}
 use Rattle.lrc_store.specs.Cells.{CellTree}
 use Rattle.lrc_rule.specs.declared.layout.Content.{Content}
 use Rattle.lrc_rule.specs.declared.layout.Layout.{Layout}
-use Rattle.lrc_rule.specs.Layout.{size, part_at, memo_at}
+use Rattle.lrc_rule.specs.Layout.{word_count, part_at, memo_at}
 use Rattle.lrc_rule.specs.Home.{place_on}
 use Rattle.lrc_rule.specs.Rows.{part, content, IsPublished, depth, Fits, IsAbsent, IsPassed, IsTable, Grows}
 use Rattle.lrc_rule.specs.Views.{View, Owned, now, next, AllGrow, Knows, IsRange, Owns, Rule, spent, opening_view}
@@ -428,12 +428,12 @@ none_at zero i = refl
 none_at (suc n) zero = refl
 none_at (suc n) (suc i) = none_at n i
 
-zeros : (l : Layout) (i : ℕ) → get_or (replicate {A = ℕ} (size l) 0) i 0 ≡ 0
-zeros l i = none_at (size l) i
+zeros : (l : Layout) (i : ℕ) → get_or (replicate {A = ℕ} (word_count l) 0) i 0 ≡ 0
+zeros l i = none_at (word_count l) i
 
-pub IsTable-zeros : (l : Layout) → IsTable l (replicate (size l) 0)
+pub IsTable-zeros : (l : Layout) → IsTable l (replicate (word_count l) 0)
 IsTable-zeros l = record {
-  whole = length-replicate (size l) 0;
+  whole = length-replicate (word_count l) 0;
   within = λ place _. let e = zeros l place in omega (arith, e);
   once = λ one other row h. let e : 0 ≡ suc row = sym (zeros l one) ∙ h.1 in absurd (omega (arith, e));
   standing = λ row h. let e : 0 ≡ suc row = sym (zeros l h.0) ∙ h.1.1 in absurd (omega (arith, e));
@@ -441,18 +441,18 @@ IsTable-zeros l = record {
   unused = λ place _. zeros l (memo_at l place);
 }
 
-pub opens : {S : Type 0} (l : Layout) → Rule l (opening {S = S} (replicate (size l) 0) [] (opening_view l))
+pub opens : {S : Type 0} (l : Layout) → Rule l (opening {S = S} (replicate (word_count l) 0) [] (opening_view l))
 opens l = record {
   table = IsTable-zeros l;
   owner = λ _. 0;
-  knows = λ seat v h live. only seat v h (λ _ w. Knows l (replicate (size l) 0) w) (record {
+  knows = λ seat v h live. only seat v h (λ _ w. Knows l (replicate (word_count l) 0) w) (record {
     layout = refl;
-    past = (Grows-refl l (replicate (size l) 0), tt);
+    past = (Grows-refl l (replicate (word_count l) 0), tt);
     room = λ none_drafted. absurd (omega (arith, none_drafted));
     four = omega arith;
     draft = λ j none_drafted. absurd (omega (arith, none_drafted));
   });
-  owns = λ seat v h live. only seat v h (λ j w. Owns l (replicate (size l) 0) (λ _. 0) j w.owned) (record {
+  owns = λ seat v h live. only seat v h (λ j w. Owns l (replicate (word_count l) 0) (λ _. 0) j w.owned) (record {
     range = record { within = omega arith; count = omega arith; made = tt };
     own = λ row _ _. refl;
     unmade = λ row _ _ p. let e : 0 ≡ suc row = sym (zeros l p.0) ∙ p.1.1 in omega (arith, e);

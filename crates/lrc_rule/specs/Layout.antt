@@ -12,8 +12,8 @@ pub record IsLayout (l : Layout) : Type 0 where
   pub memo : l.memo ≤ 2 ^ 24
 
 -- how many words there are
-abbrev pub size : Layout → ℕ
-size l = l.buckets + 4 * l.rows + l.memo
+abbrev pub word_count : Layout → ℕ
+word_count l = l.buckets + 4 * l.rows + l.memo
 
 -- which word is the bucket at a place
 abbrev pub bucket_at : Layout → ℕ → ℕ

@@ -4,7 +4,7 @@ use Rattle.std.specs.Int.{cast_unsigned, cast_signed, w64}
 use Rattle.lrc_store.specs.Cells.{CellTree, nil, number, pair}
 use Rattle.lrc_rule.specs.declared.layout.Content.{Content}
 use Rattle.lrc_rule.specs.declared.layout.Layout.{Layout}
-use Rattle.lrc_rule.specs.Layout.{size, bucket_at, part_at, memo_at}
+use Rattle.lrc_rule.specs.Layout.{word_count, bucket_at, part_at, memo_at}
 use Rattle.lrc_rule.specs.Home.{place_on}
 
 abbrev pub bucket : Layout → List ℕ → ℕ → ℕ
@@ -79,7 +79,7 @@ IsPassed l words c steps = (i : ℕ) → i < steps → IsOther l words c (place_
 --   reached    a published row is on the way from the home of its content, behind full buckets of other contents
 --   unused     the memo words are 0
 pub record IsTable (l : Layout) (words : List ℕ) : Type 0 where
-  pub whole : length words ≡ size l
+  pub whole : length words ≡ word_count l
   pub within : (place : ℕ) → place < l.buckets → bucket l words place ≤ l.rows
   pub once : (one other row : ℕ) → Names l words one row → Names l words other row → one ≡ other
   pub standing : (row : ℕ) → IsPublished l words row → (cell : CellTree) × Stands l words cell (suc row)

@@ -6,7 +6,7 @@ use lib.ListN.{get_elem?}
 use Rattle.atomic_table.specs.Table.{State}
 use Rattle.lrc_store.specs.Cells.{CellTree, coded_cell}
 use Rattle.lrc_rule.specs.declared.layout.Layout.{Layout}
-use Rattle.lrc_rule.specs.Layout.{size}
+use Rattle.lrc_rule.specs.Layout.{word_count}
 use Rattle.lrc_rule.specs.Rows.{IsTable, Grows, Stands, IsPublished, part}
 
 -- What a pass has learned.
@@ -82,7 +82,7 @@ pub record Rule {S : Type 0} (l : Layout) (s : State S View) : Type 0 where
 
 -- the pass of a new table, whose words are 0: it owns all rows
 abbrev pub opening_view : Layout → View
-opening_view l = record { live = true; layout = l; learned = record { past = replicate (size l) 0 ∷ []; draft = []; notes = [] }; owned = record { from = 0; quota = l.rows; made = [] } }
+opening_view l = record { live = true; layout = l; learned = record { past = replicate (word_count l) 0 ∷ []; draft = []; notes = [] }; owned = record { from = 0; quota = l.rows; made = [] } }
 
 -- a pass that was joined away
 abbrev pub spent : View

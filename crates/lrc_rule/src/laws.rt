@@ -6,7 +6,7 @@ ghost use Rattle.atomic_table.specs.Table.{Me, Allows, Splits, Joins, step, open
 ghost use Rattle.lrc_store.specs.Cells.{CellTree};
 ghost use Rattle.lrc_rule.specs.declared.layout.Layout.{Layout};
 ghost use Rattle.lrc_rule.specs.declared.layout.Content.{Content};
-ghost use Rattle.lrc_rule.specs.Layout.{size, part_at};
+ghost use Rattle.lrc_rule.specs.Layout.{word_count, part_at};
 ghost use Rattle.lrc_rule.specs.Home.{place_on};
 ghost use Rattle.lrc_rule.specs.Rows.{IsTable, Stands, Grows, Fits, IsPassed, IsAbsent, IsPublished, bucket, content, depth};
 ghost use Rattle.lrc_rule.specs.Views.{View, Rule, now, next, opening_view, spent};
@@ -38,7 +38,7 @@ pub fn depths_are_bounded()
 
 /// The rule is true of a new table, all of whose words are 0.
 pub fn a_new_table_meets_the_rule()
-    ensures { (l : Layout) → Rule l (opening {S = Unit {0}} (replicate (size l) 0) [] (opening_view l)) }
+    ensures { (l : Layout) → Rule l (opening {S = Unit {0}} (replicate (word_count l) 0) [] (opening_view l)) }
 {}
 
 /// A load of any word keeps the rule, also where a cell is sought and noted as absent.

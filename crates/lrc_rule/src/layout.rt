@@ -1,5 +1,5 @@
 ghost use Rattle.std.specs.Prelude.{◌≡◌, ◌+◌, ◌*◌, ◌<◌, ◌≤◌, ◌^◌};
-ghost use Rattle.lrc_rule.specs.Layout.{IsLayout, size, bucket_at, part_at};
+ghost use Rattle.lrc_rule.specs.Layout.{IsLayout, word_count, bucket_at, part_at};
 
 /// How many words of each kind a table has.
 #[derive(Debug, Clone, Copy, PartialEq, Eq)]
@@ -41,7 +41,7 @@ impl Layout {
     /// How many words there are.
     pub fn size(self) -> usize
         requires { IsLayout self }
-        ensures { result ≡ size self }
+        ensures { result ≡ word_count self }
     {
         self.buckets as usize + 4 * self.rows as usize + self.memo as usize
     }
@@ -50,7 +50,7 @@ impl Layout {
     pub fn bucket(self, place: u32) -> usize
         requires { place < self.buckets }
         ensures index { result ≡ bucket_at self place }
-        ensures within { result < size self }
+        ensures within { result < word_count self }
     {
         place as usize
     }
@@ -61,7 +61,7 @@ impl Layout {
         requires row { row < self.rows }
         requires part { part < 4 }
         ensures index { result ≡ part_at self row part }
-        ensures within { result < size self }
+        ensures within { result < word_count self }
     {
         self.buckets as usize + (4 * row as usize + part)
     }
