@@ -1,8 +1,9 @@
 -- What callers see of a pass and a table, and what is inside.
-use Rattle.std.proofs.Common.{◌≡◌, ℕ, zero, suc, refl, ◌+◌, ◌<◌, List, [], ◌∷◌, length, sym, ◌∙◌, ap, subst, arith, length-append}
+use Rattle.std.proofs.Common.{◌≡◌, ℕ, zero, suc, refl, ◌+◌, ◌^◌, ◌<◌, ◌≤◌, List, [], ◌∷◌, ◌++◌, length, get_or, sym, ◌∙◌, ap, subst, arith, length-append}
 use Rattle.lrc_rule.specs.declared.layout.Layout.{Layout}
 use Rattle.lrc_rule.specs.Layout.{IsLayout, word_count}
-use Rattle.lrc_rule.specs.Views.{View}
+use Rattle.lrc_rule.specs.Rows.{IsTable}
+use Rattle.lrc_rule.specs.Views.{View, now}
 use Rattle.lrc_rule.specs.Steps.{Follows, IsMade, Publishes, Exchanges}
 use Rattle.lrc_table.specs.Passes.{TableView, PassView, IsOf, IsPass, IsReady}
 
@@ -51,3 +52,14 @@ IsPass-lost v w carried held first quota count found word h x miss none = IsPass
     kept : (n : ℕ) → ¬ (n ≡ 0) → Publishes v w word n → w.owned.made ≡ v.owned.made
     kept zero m p = absurd (m refl)
     kept (suc n) m p = p.2
+
+-- a word of a bucket is at most the number of rows
+pub bucket-small : (l : Layout) (words : List ℕ) (place found : ℕ) → IsTable l words → IsLayout l → place < l.buckets → found ≡ get_or words place 0 → found < 2 ^ 32
+bucket-small l words place found t h inside e = let w = t.within place inside in let r = h.rows in omega (arith, w, r, e)
+
+pub exchanged-small : (v w : View) (place found : ℕ) → IsLayout v.layout → place < v.layout.buckets → Exchanges v w place found → found < 2 ^ 32
+exchanged-small v w place found h inside x = by_found found x.publishes
+  where
+    by_found : (n : ℕ) → Publishes v w place n → n < 2 ^ 32
+    by_found zero p = omega arith
+    by_found (suc n) p = bucket-small w.layout (now w) place (suc n) x.follows.current.table (subst IsLayout (sym x.follows.layout) h) (let e = ap (λ l. l.buckets) x.follows.layout in omega (arith, e, inside)) p.0

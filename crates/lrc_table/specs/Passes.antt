@@ -1,13 +1,17 @@
 -- A table and its passes, as callers see them.
-use Rattle.std.specs.Prelude.{ℕ, ◌≡◌, ◌<◌, List, [], length, refl}
+use Rattle.std.specs.Prelude.{ℕ, suc, ◌≡◌, ◌⊎◌, ◌+◌, ◌<◌, ◌≤◌, List, [], ◌∷◌, ◌++◌, length, replicate, Result, IfOk, OnErr, refl}
 use Rattle.std.specs.Coded.{Coded, code_by, coded_ℕ, coded×}
 use Rattle.atomic_table.specs.Seated.{TableId, table_id_coded}
 use Rattle.lrc_store.specs.Cells.{CellTree}
+use Rattle.lrc_store.specs.declared.cells.Handle.{Handle}
+use Rattle.lrc_store.specs.declared.stores.Full.{Full}
+use Rattle.lrc_table.specs.declared.probe.Claim.{Claim}
+use Rattle.lrc_table.specs.declared.probe.Claim.TheVariants as claim
 use Rattle.lrc_rule.specs.declared.layout.Layout.{Layout}
 use Rattle.lrc_rule.specs.declared.layout.Content.{Content}
 use Rattle.lrc_rule.specs.Layout.{IsLayout}
 use Rattle.lrc_rule.specs.Home.{place_on}
-use Rattle.lrc_rule.specs.Rows.{Fits, IsPassed, Grows}
+use Rattle.lrc_rule.specs.Rows.{Stands, Fits, IsAbsent, IsPassed, IsOther, Names, Grows}
 use Rattle.lrc_rule.specs.Views.{View, coded_view, now}
 use Rattle.lrc_rule.specs.Steps.{IsCurrent, Follows, IsDraftOf}
 
@@ -79,3 +83,55 @@ pub record Meets (p other q : PassView) : Type 0 where
   pub draft : q.view.learned.draft ≡ p.view.learned.draft
   pub notes : q.view.learned.notes ≡ p.view.learned.notes
   pub owned : q.view.owned ≡ p.view.owned
+
+-- the notes are those before, and a number of notes of this cell
+abbrev pub AreNoted : ℕ → CellTree → List CellTree → List CellTree → Type 0
+AreNoted count cell before after = after ≡ before ++ replicate count cell
+
+-- the pass sought a cell, and made at most its row; it noted nothing but this cell
+pub record Seeks (p q : PassView) (cell : CellTree) : Type 0 where
+  pub table : q.table ≡ p.table
+  pub follows : Follows p.view q.view
+  pub made : (q.view.owned.made ≡ p.view.owned.made) ⊎ (q.view.owned.made ≡ p.view.owned.made ++ cell ∷ [])
+  pub noted : (count : ℕ) × AreNoted count cell p.view.learned.notes q.view.learned.notes
+
+-- all rows of the pass are used, and the cell was noted last, at a step at which no handle stood for it
+pub record IsSpentFor (p q : PassView) (cell : CellTree) : Type 0 where
+  pub used : length q.view.owned.made ≡ q.view.owned.quota
+  pub made : q.view.owned.made ≡ p.view.owned.made
+  pub absent : IsAbsent q.view.layout (now q.view) cell
+  pub noted : (count : ℕ) × AreNoted (suc count) cell p.view.learned.notes q.view.learned.notes
+
+-- the handle stands for the cell
+abbrev pub StandsFor : PassView → Handle → CellTree → Type 0
+StandsFor q handle cell = Stands q.view.layout (now q.view) cell handle.0
+
+-- what is answered of a cell that was sought
+abbrev pub Answers : PassView → PassView → CellTree → Result Handle Full → Type 0
+Answers p q cell answer = IfOk answer (λ handle. StandsFor q handle cell) × OnErr answer (IsSpentFor p q cell)
+
+-- the path of the cell's three words leads to this place, and the places before it hold others
+pub record IsOnPath (v : View) (cell : CellTree) (content : Content) (place : ℕ) : Type 0 where
+  pub fits : Fits v.layout (now v) cell content
+  pub steps : ℕ
+  pub few : steps < v.layout.buckets
+  pub at : place ≡ place_on v.layout content steps
+  pub passed : IsPassed v.layout (now v) content steps
+
+-- what the bucket at a place holds after the pass tried to publish there
+abbrev pub Claims : PassView → PassView → CellTree → ℕ → Claim → Type 0
+Claims p q cell place claim.Full = IsSpentFor p q cell
+Claims p q cell place (claim.Own handle) = StandsFor q handle cell
+Claims p q cell place (claim.Taken handle) = ((row : ℕ) × (handle.0 ≡ suc row) × Names q.view.layout (now q.view) place row) × (q.view.owned.made ≡ p.view.owned.made)
+
+-- the place holds the row of another cell, and no row was made
+abbrev pub PassesBy : PassView → PassView → Content → ℕ → Type 0
+PassesBy p q content place = IsOther q.view.layout (now q.view) content place × (q.view.owned.made ≡ p.view.owned.made)
+
+-- the pass drafted a row
+pub record Drafts (p q : PassView) (content : Content) (deep : ℕ) : Type 0 where
+  pub table : q.table ≡ p.table
+  pub follows : Follows p.view q.view
+  pub draft : q.view.learned.draft ≡ content.tag ∷ content.left ∷ content.right ∷ deep ∷ []
+  pub notes : q.view.learned.notes ≡ p.view.learned.notes
+  pub made : q.view.owned.made ≡ p.view.owned.made

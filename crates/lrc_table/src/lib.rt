@@ -5,6 +5,7 @@
 //! and none waits.
 #![tactic(auto)]
 
+mod probe;
 mod table;
 
 pub use table::{Pass, Table};

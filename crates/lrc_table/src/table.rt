@@ -2,14 +2,14 @@
 ghost use Rattle.std.specs.Prelude.{◌≡◌, ℕ, ◌+◌, ◌*◌, ◌<◌, ◌≤◌, ◌^◌, [], length, IfOk};
 ghost use Rattle.lrc_rule.specs.Layout.{IsLayout, word_count};
 ghost use Rattle.lrc_rule.specs.Views.{now, next, opening_view};
-ghost use Rattle.lrc_rule.specs.Steps.{Loads, Notes, Stores, Exchanges, left_of, right_of};
+ghost use Rattle.lrc_rule.specs.Steps.{IsCurrent, Loads, Notes, Stores, Exchanges, left_of, right_of};
 ghost use Rattle.lrc_table.specs.Passes.{IsOf, Reads, IsSought, IsReady, Meets};
 
 use atomic_table::{Seat, Table as Words};
 use lrc_rule::{
     Amount, Cut, Draft, Key, Layout, Load, Meet, Publish, Rules, Seek, Sought, Viewed,
 };
-use lrc_store::Meaning;
+use lrc_store::{Handle, Meaning};
 use std::alloc::{AllocError, Global};
 use std::marker::{Brand, Model, PhantomData};
 
@@ -94,10 +94,21 @@ impl<M: Meaning + Drop> Table<M> {
     }
 }
 
+impl<M: Meaning> Table<M> {
+    /// Where the words lie.
+    pub(crate) fn layout(&self) -> Layout
+        ensures value { result ≡ self.now.layout }
+        ensures layout { IsLayout self.now.layout }
+    {
+        self.layout
+    }
+}
+
 impl<M: Meaning> Pass<M> {
     /// How many rows this pass published.
     pub fn published(&self) -> u32
-        ensures { result ≡ length self.now.view.owned.made }
+        ensures count { result ≡ length self.now.view.owned.made }
+        ensures current { IsCurrent self.now.view }
     {
         self.count
     }
@@ -107,6 +118,13 @@ impl<M: Meaning> Pass<M> {
         ensures { result ≡ self.now.view.owned.quota }
     {
         self.quota
+    }
+
+    /// The handle of the last row that it published, or of the row before its first.
+    pub(crate) fn last(&self) -> Handle
+        ensures { result.0 ≡ next self.now.view }
+    {
+        Handle(self.first + self.count)
     }
 
     /// Loads a word.
@@ -128,6 +146,7 @@ impl<M: Meaning> Pass<M> {
         ensures table { self.new.table ≡ self.old.table }
         ensures loads { Loads self.old.view self.new.view place result }
         ensures notes { Notes self.old.view self.new.view C.cell result }
+        ensures small { result < 2 ^ 32 }
     {
         table
             .words
@@ -160,6 +179,7 @@ impl<M: Meaning> Pass<M> {
         requires room { length self.old.view.owned.made < self.old.view.owned.quota }
         ensures table { self.new.table ≡ self.old.table }
         ensures exchanges { Exchanges self.old.view self.new.view place result }
+        ensures small { result < 2 ^ 32 }
     {
         let next = u64::from(self.first + self.count) + 1;
         let word = table.layout.bucket(place);
