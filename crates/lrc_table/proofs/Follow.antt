@@ -1,15 +1,15 @@
 -- Steps one after another.
-use Rattle.std.proofs.Common.{◌≡◌, ◌⊎◌, inl, inr, ℕ, zero, suc, ◌+◌, ◌-◌, ◌<◌, ◌≤◌, List, [], ◌∷◌, ◌++◌, length, get_or, replicate, refl, sym, ◌∙◌, ap, subst, arith, append_assoc}
+use Rattle.std.proofs.Common.{◌≡◌, ℕ, zero, suc, ◌-◌, ◌<◌, ◌≤◌, List, get_or, refl, sym, ◌∙◌, ap, subst, arith}
 use Rattle.lrc_store.specs.Cells.{CellTree, nil, number, pair}
 use Rattle.lrc_rule.specs.declared.layout.Content.{Content}
 use Rattle.lrc_rule.specs.declared.layout.Layout.{Layout}
-use Rattle.lrc_rule.specs.Layout.{IsLayout, part_at}
+use Rattle.lrc_rule.specs.Layout.{part_at}
 use Rattle.lrc_rule.specs.Rows.{Grows, Stands, Fits, IsPassed, IsPublished, Names, IsTable, content, depth, part}
-use Rattle.lrc_rule.specs.Views.{View, now, next, AllGrow}
+use Rattle.lrc_rule.specs.Views.{View, now, AllGrow}
 use Rattle.lrc_rule.specs.Steps.{IsCurrent, Follows, Loads}
-use Rattle.lrc_rule.proofs.Growth.{Grows-refl, Grows-trans, AllGrow-trans, Stands-grown, Fits-grown, IsPassed-grown, published-grown, content-grown, content_is}
+use Rattle.lrc_rule.proofs.Growth.{Grows-refl, AllGrow-trans, Stands-grown, Fits-grown, IsPassed-grown, published-grown}
 use Rattle.lrc_rule.proofs.Unique.{row_of}
-use Rattle.lrc_table.specs.Passes.{TableView, PassView, IsOf, Reads, Seeks, AreNoted, Drafts}
+use Rattle.lrc_table.specs.Passes.{TableView, PassView, IsOf, Reads}
 
 -- the words that a pass knew have grown to those that it knows
 pub grown-from : (v w : View) → IsCurrent v → Follows v w → Grows v.layout (now v) (now w)

@@ -1,5 +1,5 @@
 -- What callers see of a pass and a table, and what is inside.
-use Rattle.std.proofs.Common.{◌≡◌, ℕ, zero, suc, refl, ◌+◌, ◌^◌, ◌<◌, ◌≤◌, List, [], ◌∷◌, ◌++◌, length, get_or, sym, ◌∙◌, ap, subst, arith, length-append}
+use Rattle.std.proofs.Common.{◌≡◌, ℕ, zero, suc, refl, ◌+◌, ◌^◌, ◌<◌, List, [], ◌∷◌, length, get_or, sym, ◌∙◌, ap, subst, arith, length-append}
 use Rattle.lrc_rule.specs.declared.layout.Layout.{Layout}
 use Rattle.lrc_rule.specs.Layout.{IsLayout, word_count}
 use Rattle.lrc_rule.specs.Rows.{IsTable}

@@ -1,7 +1,7 @@
 -- How a probe goes on, and how it ends.
 use Rattle.std.proofs.lemmas.Bool.{false≢true}
-use Rattle.std.proofs.Common.{Bool, true, false, ◌&&◌, eqb, eqb-true, eq-eqb, ◌≡◌, ◌⊎◌, inl, inr, ⊎_elim, ℕ, zero, suc, ◌+◌, ◌-◌, ◌*◌, ◌%◌, ◌<◌, ◌≤◌, max, List, [], ◌∷◌, ◌++◌, length, get_or, take, replicate, refl, sym, ◌∙◌, ap, subst, arith, append_assoc, append-nil, length-append}
-use Rattle.std.specs.Prelude.{Result, Ok, Err, IfOk, OnErr}
+use Rattle.std.proofs.Common.{Bool, true, false, ◌&&◌, eqb, eqb-true, eq-eqb, ◌≡◌, inl, inr, ⊎_elim, ℕ, zero, suc, ◌+◌, ◌-◌, ◌%◌, ◌<◌, max, List, [], ◌∷◌, ◌++◌, length, get_or, take, replicate, refl, sym, ◌∙◌, ap, subst, arith, append_assoc, append-nil, length-append}
+use Rattle.std.specs.Prelude.{Result, Ok, Err}
 use mathlib.Core.Logic.{dite}
 use native.Mathlib.Decide.{dec_lt}
 use Rattle.lrc_store.specs.Cells.{CellTree, nil, number, pair}
@@ -13,13 +13,13 @@ use Rattle.lrc_rule.specs.declared.layout.Content.{Content}
 use Rattle.lrc_rule.specs.declared.layout.Layout.{Layout}
 use Rattle.lrc_rule.specs.Layout.{IsLayout}
 use Rattle.lrc_rule.specs.Home.{home_of, place_on}
-use Rattle.lrc_rule.specs.Rows.{Stands, Fits, IsPassed, IsOther, IsPublished, Names, IsTable, IsAbsent, content, depth}
+use Rattle.lrc_rule.specs.Rows.{Stands, Fits, IsPassed, IsOther, Names, content, depth}
 use Rattle.lrc_rule.specs.Views.{View, now, next}
-use Rattle.lrc_rule.specs.Steps.{IsCurrent, Follows, Loads, Notes, Stores, IsMade, Publishes, Exchanges, IsDraftOf}
+use Rattle.lrc_rule.specs.Steps.{IsCurrent, Follows, Loads, Notes, IsMade, Publishes, Exchanges, IsDraftOf}
 use Rattle.lrc_rule.proofs.Unique.{Stands-from_content}
-use Rattle.lrc_rule.proofs.Counts.{passed-le, depth-le}
-use Rattle.lrc_table.specs.Passes.{TableView, PassView, IsOf, Reads, Seeks, AreNoted, Drafts, IsReady, IsOnPath, IsSpentFor, StandsFor, Claims, Answers, PassesBy}
-use Rattle.lrc_table.proofs.Follow.{Follows-refl, Follows-trans, published-later, names-later, Stands-later, Fits-later, IsPassed-later}
+use Rattle.lrc_rule.proofs.Counts.{passed-le}
+use Rattle.lrc_table.specs.Passes.{PassView, Reads, Seeks, AreNoted, Drafts, IsReady, IsOnPath, IsSpentFor, Claims, Answers, PassesBy}
+use Rattle.lrc_table.proofs.Follow.{Follows-refl, Follows-trans, published-later, names-later, Fits-later, IsPassed-later}
 
 -- ---- the depth of a content
 

@@ -1,5 +1,5 @@
 -- A table and its passes, as callers see them.
-use Rattle.std.specs.Prelude.{ℕ, suc, ◌≡◌, ◌⊎◌, ◌+◌, ◌<◌, ◌≤◌, List, [], ◌∷◌, ◌++◌, length, replicate, Result, IfOk, OnErr, refl}
+use Rattle.std.specs.Prelude.{ℕ, suc, ◌≡◌, ◌⊎◌, ◌<◌, List, [], ◌∷◌, ◌++◌, length, replicate, Result, IfOk, OnErr, refl}
 use Rattle.std.specs.Coded.{Coded, code_by, coded_ℕ, coded×}
 use Rattle.atomic_table.specs.Seated.{TableId, table_id_coded}
 use Rattle.lrc_store.specs.Cells.{CellTree}
@@ -79,6 +79,9 @@ pub record Meets (p other q : PassView) : Type 0 where
   pub layout : q.view.layout ≡ p.view.layout
   pub grown : Grows p.view.layout (now p.view) (now q.view)
   pub grown_too : Grows p.view.layout (now other.view) (now q.view)
+  pub before : IsCurrent p.view
+  pub before_too : IsCurrent other.view
+  pub layout_too : other.view.layout ≡ p.view.layout
   pub current : IsCurrent q.view
   pub draft : q.view.learned.draft ≡ p.view.learned.draft
   pub notes : q.view.learned.notes ≡ p.view.learned.notes

@@ -5,6 +5,7 @@
 //! and none waits.
 #![tactic(auto)]
 
+mod calls;
 mod probe;
 mod table;
 

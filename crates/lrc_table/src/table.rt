@@ -3,6 +3,8 @@ ghost use Rattle.std.specs.Prelude.{◌≡◌, ℕ, ◌+◌, ◌*◌, ◌<◌, �
 ghost use Rattle.lrc_rule.specs.Layout.{IsLayout, word_count};
 ghost use Rattle.lrc_rule.specs.Views.{now, next, opening_view};
 ghost use Rattle.lrc_rule.specs.Steps.{IsCurrent, Loads, Notes, Stores, Exchanges, left_of, right_of};
+ghost use Rattle.lrc_store.specs.Standing.{IsSound};
+ghost use Rattle.lrc_table.specs.Standings.{standing};
 ghost use Rattle.lrc_table.specs.Passes.{IsOf, Reads, IsSought, IsReady, Meets};
 
 use atomic_table::{Seat, Table as Words};
@@ -23,7 +25,9 @@ pub struct Table<M: Meaning> {
 impl<M: Meaning> Model for Table<M> {
     ghost use Rattle.std.specs.Prelude.{◌≡◌};
     ghost use Rattle.lrc_rule.specs.Layout.{IsLayout, word_count};
-    ghost use Rattle.lrc_table.specs.Passes.{TableView, coded_table_view};
+    ghost use Rattle.lrc_store.specs.Standing.{IsSound};
+ghost use Rattle.lrc_table.specs.Standings.{standing};
+ghost use Rattle.lrc_table.specs.Passes.{TableView, coded_table_view};
 
     ghost Value = { TableView M };
 
@@ -46,7 +50,9 @@ pub struct Pass<M: Meaning> {
 }
 
 impl<M: Meaning> Model for Pass<M> {
-    ghost use Rattle.lrc_table.specs.Passes.{PassView, coded_pass_view, IsPass};
+    ghost use Rattle.lrc_store.specs.Standing.{IsSound};
+ghost use Rattle.lrc_table.specs.Standings.{standing};
+ghost use Rattle.lrc_table.specs.Passes.{PassView, coded_pass_view, IsPass};
 
     ghost Value = { PassView };
 
@@ -109,6 +115,8 @@ impl<M: Meaning> Pass<M> {
     pub fn published(&self) -> u32
         ensures count { result ≡ length self.now.view.owned.made }
         ensures current { IsCurrent self.now.view }
+        ensures layout { IsLayout self.now.view.layout }
+        ensures sound { IsSound (standing self.now.view) }
     {
         self.count
     }
@@ -223,8 +231,8 @@ impl<M: Meaning> Pass<M> {
         self.cut::<Brand>(table, quota)
     }
 
-    /// This pass then knows the handles of both. The rows that the other has not used stay unused.
-    pub fn meet(&mut self, table: &Table<M>, other: Pass<M>)
+    /// Takes in what another pass knows.
+    pub(crate) fn take_in(&mut self, table: &Table<M>, other: Pass<M>)
         requires of { IsOf self.old table.now }
         requires other_of { IsOf other table.now }
         ensures { Meets self.old other self.new }

@@ -1,5 +1,4 @@
-use Rattle.std.proofs.Common.{ap, sym, ◌∙◌, arith, subst, suc}
-use Rattle.lrc_table.proofs.Follow.{Follows-trans, IsOf-later}
+use Rattle.std.proofs.Common.{ap, sym, ◌∙◌, arith}
 use Rattle.lrc_table.proofs.Probing.{Claims-later, Seeks-loads, Seeks-trans, spent_at, path_later, named_by}
 use Rattle.lrc_table.proofs.table.Pass.claim.Goals as goal
 

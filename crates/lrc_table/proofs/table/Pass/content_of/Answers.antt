@@ -1,5 +1,5 @@
-use Rattle.std.proofs.Common.{ap, sym, ◌∙◌, arith, ◌<◌}
-use Rattle.lrc_table.proofs.Follow.{Reads-trans, loaded_part, loaded_content, row-below, published-later}
+use Rattle.std.proofs.Common.{sym, ◌∙◌}
+use Rattle.lrc_table.proofs.Follow.{Reads-trans, loaded_part, loaded_content}
 use Rattle.lrc_table.proofs.table.Pass.content_of.Goals as goal
 
 

@@ -1,4 +1,4 @@
-use Rattle.std.proofs.Common.{ℕ, suc, zero, ◌-◌, ◌^◌, ◌<◌, ◌≡◌, ap, sym, ◌∙◌, arith, subst}
+use Rattle.std.proofs.Common.{◌-◌, ap, sym, ◌∙◌, arith}
 use Rattle.lrc_rule.proofs.Counts.{depth-le}
 use Rattle.lrc_table.proofs.Follow.{Reads-refl, handle-le, part-later, loaded_part, depth_at, nil_at}
 use Rattle.lrc_table.proofs.table.Pass.depth_of.Goals as goal

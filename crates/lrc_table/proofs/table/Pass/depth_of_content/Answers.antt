@@ -1,5 +1,5 @@
-use Rattle.std.proofs.Common.{ℕ, suc, ◌+◌, ◌^◌, ◌<◌, ◌≡◌, ap, sym, ◌∙◌, arith, subst}
-use Rattle.lrc_table.proofs.Follow.{Reads-refl, Reads-trans, Stands-later, IsOf-later}
+use Rattle.std.proofs.Common.{arith}
+use Rattle.lrc_table.proofs.Follow.{Reads-refl, Reads-trans, Stands-later}
 use Rattle.lrc_table.proofs.Probing.{number_depth, sides}
 use Rattle.lrc_table.proofs.table.Pass.depth_of_content.Goals as goal
 

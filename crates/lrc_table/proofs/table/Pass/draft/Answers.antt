@@ -1,6 +1,4 @@
-use Rattle.std.proofs.Common.{ℕ, [], ◌∷◌, ap, sym, ◌∙◌, arith, subst}
-use Rattle.lrc_rule.specs.Views.{View}
-use Rattle.lrc_table.specs.Passes.{Drafts}
+use Rattle.std.proofs.Common.{ℕ, [], ◌∷◌, ap, ◌∙◌}
 use Rattle.lrc_table.proofs.Follow.{Follows-trans}
 use Rattle.lrc_table.proofs.Probing.{four_stored}
 use Rattle.lrc_table.proofs.table.Pass.draft.Goals as goal

@@ -1,5 +1,4 @@
-use Rattle.std.proofs.Common.{ap, sym, ◌∙◌, arith, subst, suc}
-use Rattle.lrc_table.proofs.Follow.{Follows-trans, IsOf-later}
+use Rattle.std.proofs.Common.{ap, ◌∙◌, arith}
 use Rattle.lrc_table.proofs.Probing.{ready_after, exchanged_own, own_stands, exchanged_lost, lost_names}
 use Rattle.lrc_table.proofs.table.Pass.publish.Goals as goal
 

@@ -1,6 +1,6 @@
-use Rattle.std.proofs.Common.{ap, sym, ◌∙◌, arith, subst, suc}
+use Rattle.std.proofs.Common.{sym, ◌∙◌}
 use Rattle.lrc_rule.specs.Views.{now}
-use Rattle.lrc_table.proofs.Follow.{Follows-trans, IsOf-later, Fits-later}
+use Rattle.lrc_table.proofs.Follow.{Fits-later}
 use Rattle.lrc_table.proofs.Probing.{Seeks-reads, taken_published, taken_stands, taken_other, same_content, other_content}
 use Rattle.lrc_table.proofs.table.Pass.try_place.Goals as goal
 
