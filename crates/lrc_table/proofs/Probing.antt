@@ -88,8 +88,11 @@ IsSpentFor-later p q r cell f same s = record {
   used = s.used;
   made = s.made ∙ same;
   absent = s.absent;
-  noted = (f.noted.0 + s.noted.0, subst (λ n. AreNoted n cell p.view.learned.notes r.view.learned.notes) (let e : f.noted.0 + suc s.noted.0 ≡ suc (f.noted.0 + s.noted.0) = omega arith in e)
-      (notes-more f.noted.0 (suc s.noted.0) cell _ _ _ f.noted.1 s.noted.1));
+  noted = (
+    f.noted.0 + s.noted.0,
+    subst (λ n. AreNoted n cell p.view.learned.notes r.view.learned.notes) (let e : f.noted.0 + suc s.noted.0 ≡ suc (f.noted.0 + s.noted.0) = omega arith in e)
+        (notes-more f.noted.0 (suc s.noted.0) cell _ _ _ f.noted.1 s.noted.1),
+  );
 }
 
 pub Answers-later : (p q r : PassView) (cell : CellTree) (answer : Result Handle Full) → Seeks p q cell → q.view.owned.made ≡ p.view.owned.made → Answers q r cell answer → Answers p r cell answer
@@ -196,7 +199,7 @@ taken_stands q r cell c found place handle reads current h fits read same =
     let p = published-later q.view r.view (handle - 1) current reads.follows (place, n) in
     let e : suc (handle - 1) ≡ handle = (let f = h.1 in omega (arith, f)) in
     subst (Stands r.view.layout (now r.view) cell) e
-        (Stands-from_content r.view.layout (now r.view) reads.follows.current.table cell (handle - 1) p (subst (Fits r.view.layout (now r.view) cell) (sym same ∙ read) fits))
+    (Stands-from_content r.view.layout (now r.view) reads.follows.current.table cell (handle - 1) p (subst (Fits r.view.layout (now r.view) cell) (sym same ∙ read) fits))
 
 pub taken_other : (q r : PassView) (c found : Content) (place handle : ℕ) → Reads q r → IsCurrent q.view → ((row : ℕ) × (handle ≡ suc row) × Names q.view.layout (now q.view) place row)
     → found ≡ content r.view.layout (now r.view) (handle - 1) → ¬ (found ≡ c) → IsOther r.view.layout (now r.view) c place

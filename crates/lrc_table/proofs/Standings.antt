@@ -82,6 +82,7 @@ module _ (l : Layout) (words : List ℕ) where
     where
       rest : Option CellTree
       rest = cond (eqb (part l words row 0) 0) (Some (number (cast_signed w64 (part l words row 1)))) (paired (part l words row 0) (cell_at l words fuel (part l words row 1)) (cell_at l words fuel (part l words row 2)))
+
       over : (b : Bool) → is_in (suc row) (take l.buckets words) ≡ b → IsPublished l words row
       over true g = is_in-published row g
       over false g = absurd (none_some cell (sym (ap (λ b. cond b rest None) g) ∙ e))

@@ -71,6 +71,7 @@ module _ (l : Layout) (words : List ℕ) (t : IsTable l words) where
       is_nil nil = 0
       is_nil (number m) = 1
       is_nil (pair tag left right) = 1
+
       not_nil : (m : ℤ) → number m ≢ nil
       not_nil m e = let z : 1 ≡ 0 = ap is_nil e in omega (arith, z)
   part_stands (pair tag left right) part handle h c = ⊎_elim
@@ -82,6 +83,7 @@ module _ (l : Layout) (words : List ℕ) (t : IsTable l words) where
       is_nil nil = 0
       is_nil (number m) = 1
       is_nil (pair tag left right) = 1
+
       not_nil : pair tag left right ≢ nil
       not_nil e = let z : 1 ≡ 0 = ap is_nil e in omega (arith, z)
 
@@ -114,6 +116,7 @@ puts p q cell answer c s a = let f = s.follows in let w = q.view in record {
     by_ok : (r : Result Handle Full) → IfOk r (λ handle. Stands q.view.layout (now q.view) cell handle.0) → IfOk r (λ handle. Tells (standing q.view) handle.0 cell)
     by_ok (Ok handle) h = record { stands = known-from q.view.layout (now q.view) s.follows.current.table cell handle.0 h; seen = seen-parts q.view.layout (now q.view) s.follows.current.table cell handle.0 h }
     by_ok (Err full) h = tt
+
     by_full : (r : Result Handle Full) → OnErr r (IsSpentFor p q cell) → OnErr r (IsFullFor (standing q.view) cell)
     by_full (Ok handle) h = tt
     by_full (Err full) h = record {
@@ -159,11 +162,10 @@ made_stands l words row (first ∷ cells) cell made h = ⊎_elim
 
 made_once : (l : Layout) (words : List ℕ) → IsTable l words → (row : ℕ) (cells : List CellTree) → AreMade l words row cells → HasNoRepeats cells
 made_once l words t row [] made = tt
-made_once l words t row (first ∷ cells) made =
-    (
-      λ h. let m = made_stands l words (suc row) cells first made.1 h in let e = handle_unique l words t first (suc row) (suc m.0) made.0 m.2 in let less = m.1 in omega (arith, e, less),
-      made_once l words t (suc row) cells made.1,
-    )
+made_once l words t row (first ∷ cells) made = (
+  λ h. let m = made_stands l words (suc row) cells first made.1 h in let e = handle_unique l words t first (suc row) (suc m.0) made.0 m.2 in let less = m.1 in omega (arith, e, less),
+  made_once l words t (suc row) cells made.1,
+)
 
 pub sound : (v : View) → IsCurrent v → IsLayout v.layout → IsSound (standing v)
 sound v c layout = let l = v.layout in let words = now v in let t = c.table in record {

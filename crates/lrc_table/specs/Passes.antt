@@ -29,8 +29,8 @@ pub record PassView : Type 0 where
 abbrev pub coded_table_view : {M : Type 0} → Coded M → Coded (TableView M)
 coded_table_view {M} m =
     code_by (TableId × ((ℕ × (ℕ × ℕ)) × M)) (coded× table_id_coded (coded× (coded× coded_ℕ (coded× coded_ℕ coded_ℕ)) m))
-        (λ t. (t.id, ((t.layout.buckets, (t.layout.rows, t.layout.memo)), t.meaning)))
-        (λ p. record { id = p.0; layout = record { buckets = p.1.0.0; rows = p.1.0.1.0; memo = p.1.0.1.1 }; meaning = p.1.1 }) (λ _. refl)
+    (λ t. (t.id, ((t.layout.buckets, (t.layout.rows, t.layout.memo)), t.meaning)))
+    (λ p. record { id = p.0; layout = record { buckets = p.1.0.0; rows = p.1.0.1.0; memo = p.1.0.1.1 }; meaning = p.1.1 }) (λ _. refl)
 
 abbrev pub coded_pass_view : Coded PassView
 coded_pass_view = code_by (TableId × View) (coded× table_id_coded coded_view) (λ p. (p.table, p.view)) (λ p. record { table = p.0; view = p.1 }) (λ _. refl)

@@ -26,7 +26,7 @@ cell_at l words fuel zero = Some nil
 cell_at l words zero (suc row) = None
 cell_at l words (suc fuel) (suc row) = let c = content l words row in
     cond (is_in (suc row) (take l.buckets words))
-        (cond (nat_eq c.tag 0) (Some (number (cast_signed w64 c.left))) (paired c.tag (cell_at l words fuel c.left) (cell_at l words fuel c.right))) None
+    (cond (nat_eq c.tag 0) (Some (number (cast_signed w64 c.left))) (paired c.tag (cell_at l words fuel c.left) (cell_at l words fuel c.right))) None
 
 -- the cells of the first rows
 abbrev pub cells_below : Layout → List ℕ → ℕ → List CellTree

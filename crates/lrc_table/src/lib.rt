@@ -8,5 +8,7 @@
 mod calls;
 mod probe;
 mod table;
+#[cfg(test)]
+mod tests;
 
 pub use table::{Pass, Table};

@@ -8,9 +8,7 @@ ghost use Rattle.lrc_table.specs.Standings.{standing};
 ghost use Rattle.lrc_table.specs.Passes.{IsOf, Reads, IsSought, IsReady, Meets};
 
 use atomic_table::{Seat, Table as Words};
-use lrc_rule::{
-    Amount, Cut, Draft, Key, Layout, Load, Meet, Publish, Rules, Seek, Sought, Viewed,
-};
+use lrc_rule::{Amount, Cut, Draft, Key, Layout, Load, Meet, Publish, Rules, Seek, Sought, Viewed};
 use lrc_store::{Handle, Meaning};
 use std::alloc::{AllocError, Global};
 use std::marker::{Brand, Model, PhantomData};
@@ -26,8 +24,8 @@ impl<M: Meaning> Model for Table<M> {
     ghost use Rattle.std.specs.Prelude.{◌≡◌};
     ghost use Rattle.lrc_rule.specs.Layout.{IsLayout, word_count};
     ghost use Rattle.lrc_store.specs.Standing.{IsSound};
-ghost use Rattle.lrc_table.specs.Standings.{standing};
-ghost use Rattle.lrc_table.specs.Passes.{TableView, coded_table_view};
+    ghost use Rattle.lrc_table.specs.Standings.{standing};
+    ghost use Rattle.lrc_table.specs.Passes.{TableView, coded_table_view};
 
     ghost Value = { TableView M };
 
@@ -51,8 +49,8 @@ pub struct Pass<M: Meaning> {
 
 impl<M: Meaning> Model for Pass<M> {
     ghost use Rattle.lrc_store.specs.Standing.{IsSound};
-ghost use Rattle.lrc_table.specs.Standings.{standing};
-ghost use Rattle.lrc_table.specs.Passes.{PassView, coded_pass_view, IsPass};
+    ghost use Rattle.lrc_table.specs.Standings.{standing};
+    ghost use Rattle.lrc_table.specs.Passes.{PassView, coded_pass_view, IsPass};
 
     ghost Value = { PassView };
 

@@ -9,8 +9,7 @@ use Rattle.lrc_table.proofs.table.Pass.cell.Goals as goal
 pub put-requires-clause-fits : goal.put-requires-clause-fits
 put-requires-clause-fits g c =
     let v = c.args.self.now.view in let now = c.published-rows.ensures.current in
-    let t = c.from.ensures in
-    (
+    let t = c.from.ensures in (
       refl,
       known_stands v now _ (subst (IsKnown (standing v)) (sym c.from-2.ensures) c.requires.left_known),
       known_stands v now _ (subst (IsKnown (standing v)) (sym c.from-3.ensures) c.requires.right_known),
@@ -22,6 +21,6 @@ pub returns-clause-puts : goal.returns-clause-puts
 returns-clause-puts g c =
     let v = c.args.self.now.view in
     let e : pair c.from.result (meant (standing v) c.from-2.result) (meant (standing v) c.from-3.result) ≡ pair c.args.tag (meant (standing v) c.args.left.0) (meant (standing v) c.args.right.0)
-            = (λ i. pair (c.from.ensures i) (meant (standing v) (c.from-2.ensures i)) (meant (standing v) (c.from-3.ensures i))) in
+    = (λ i. pair (c.from.ensures i) (meant (standing v) (c.from-2.ensures i)) (meant (standing v) (c.from-3.ensures i))) in
     subst (λ (cell : CellTree). Puts (standing v) (standing c.put.new.self.view) cell c.put.result) e
-        (puts c.args.self.now c.put.new.self _ c.put.result c.published-rows.ensures.current c.put.ensures.seeks c.put.ensures.answers)
+    (puts c.args.self.now c.put.new.self _ c.put.result c.published-rows.ensures.current c.put.ensures.seeks c.put.ensures.answers)

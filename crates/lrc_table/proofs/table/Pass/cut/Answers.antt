@@ -9,8 +9,7 @@ pub split_seat-seat-requires : goal.split_seat-seat-requires
 split_seat-seat-requires g c =
     let s = c.self in let i = s.invariant in
     let v = ap (λ (p : PassView). p.view) s.view_is in
-    let unused = subst (λ (w : View). c.args.quota + length w.owned.made ≤ w.owned.quota) (sym v) c.requires.unused in
-    (
+    let unused = subst (λ (w : View). c.args.quota + length w.owned.made ≤ w.owned.quota) (sym v) c.requires.unused in (
       same_id _ _ _ _ s.view_is c.table.view_is c.requires.of,
       some_word _ _ c.table.invariant.1 c.table.invariant.3,
       splits _ _ _ g.A.Amount.amount i.current.live (omega (arith, c.requires.amount, unused)),

@@ -19,8 +19,7 @@ pub store-requires : goal.store-requires
 store-requires g c =
     let s = c.self in let i = s.invariant in
     let e = same_layout _ _ _ _ s.view_is c.table.view_is c.requires.of in
-    let v = ap (λ (p : PassView). p.view) s.view_is in
-    (
+    let v = ap (λ (p : PassView). p.view) s.view_is in (
       same_id _ _ _ _ s.view_is c.table.view_is c.requires.of,
       (let w = c.part-word.ensures.within in omega (arith, w, c.table.invariant.1)),
       stores _ _ _ _ _ c.args.part c.args.value i.current

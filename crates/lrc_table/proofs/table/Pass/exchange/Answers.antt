@@ -14,8 +14,7 @@ compare_exchange-found-requires g c =
     let room = subst (λ (w : View). length w.owned.made < w.owned.quota) (sym v) c.requires.room in
     let inside = c.requires.place in
     let buckets = ap (λ l. l.buckets) e in
-    let buckets_too = ap (λ t. t.layout.buckets) c.table.view_is in
-    (
+    let buckets_too = ap (λ t. t.layout.buckets) c.table.view_is in (
       same_id _ _ _ _ s.view_is c.table.view_is c.requires.of,
       (let w = c.bucket-word.ensures.within in omega (arith, w, c.table.invariant.1)),
       publishes _ _ _ _ _ _ ready.cell ready.steps i.current ready.drafted (c.bucket-word.ensures.index ∙ ready.at) ready.few

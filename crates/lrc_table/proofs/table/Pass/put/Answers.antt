@@ -35,7 +35,7 @@ loop-steps-preserved g c =
     let b = ap (λ l. l.buckets) e in
     let at = place_is q.view.layout c.args.content _ _ _ _ _ c.place_after-place.ensures.value c.home-home.ensures.value c.from.ensures b in
     subst (λ n. Tried p c.try_place.new.self g.C.Sought.cell c.args.content n) (let s : suc c.loop-steps.steps ≡ c.loop-steps.steps + 1 = omega arith in s)
-        (Tried-more p q c.try_place.new.self _ c.args.content c.loop-steps.steps _ t at c.in_default.ensures.seeks c.in_default.ensures.answers)
+    (Tried-more p q c.try_place.new.self _ c.args.content c.loop-steps.steps _ t at c.in_default.ensures.seeks c.in_default.ensures.answers)
 
 pub returns-in-Some-clause-seeks : goal.returns-in-Some-clause-seeks
 returns-in-Some-clause-seeks g c = let t = c.loop-steps.invariant in
@@ -52,4 +52,4 @@ unreachable-requires g c =
     let e = c.layout-places.ensures.value ∙ (sym c.requires.of.1 ∙ sym f.layout) in
     let b = ap (λ l. l.buckets) e in
     Tried-ends p q _ c.args.content c.loop-steps.steps t (let n = c.loop-steps-test.false in let m = c.loop-steps.auto.steps-end in omega (arith, n, m, b))
-        (subst IsLayout (sym c.layout-places.ensures.value ∙ e) c.layout-places.ensures.layout)
+    (subst IsLayout (sym c.layout-places.ensures.value ∙ e) c.layout-places.ensures.layout)

@@ -6,8 +6,7 @@ use Rattle.lrc_table.proofs.table.Pass.same.Goals as goal
 
 pub returns-clause-cells : goal.returns-clause-cells
 returns-clause-cells g c =
-    let v = c.args.self.now.view in
-    (
+    let v = c.args.self.now.view in (
       λ t. ap (λ (n : ℕ). meant (standing v) n) (eqb-true c.args.left.0 c.args.right.0 (sym c.eq.ensures ∙ t)),
       λ e. c.eq.ensures ∙ eq-eqb c.args.left.0 c.args.right.0 (same_handles v c.published-rows.ensures.current c.args.left.0 c.args.right.0 c.requires.left_known c.requires.right_known e),
     )

@@ -5,8 +5,7 @@ use Rattle.lrc_table.proofs.table.Pass.take_in.Goals as goal
 
 pub join_seat-requires : goal.join_seat-requires
 join_seat-requires g c =
-    let s = c.self in
-    (
+    let s = c.self in (
       same_id _ _ _ _ s.view_is c.table.view_is c.requires.of,
       same_id _ _ _ _ c.other.view_is c.table.view_is c.requires.other_of,
       c.other.invariant.none,
@@ -17,8 +16,7 @@ join_seat-requires g c =
 pub load-requires : goal.load-requires
 load-requires g c =
     let s = c.self in
-    let j = c.join_seat.ensures in
-    (
+    let j = c.join_seat.ensures in (
       j.0 ∙ same_id _ _ _ _ s.view_is c.table.view_is c.requires.of,
       some_word _ _ c.table.invariant.1 c.table.invariant.3,
       loads _ _ _ _ _ (ap (λ m. m.0.live) j.2 ∙ s.invariant.current.live),

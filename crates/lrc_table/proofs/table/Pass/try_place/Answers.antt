@@ -11,10 +11,12 @@ pub returns-then-eq-clause-seeks : goal.returns-then-eq-clause-seeks
 returns-then-eq-clause-seeks g c = Seeks-reads c.args.self.now c.claim.new.self c.content_of.new.self _ c.in-Taken.ensures.seeks c.content_of.ensures.reads
 
 pub returns-then-eq-clause-answers : goal.returns-then-eq-clause-answers
-returns-then-eq-clause-answers g c = let q = c.claim.new.self in let r = c.content_of.new.self in let f = c.in-Taken.ensures.seeks.follows in
-    (taken_stands q r _ c.args.content c.content_of.result c.args.place c.in-Taken.handle.0 c.content_of.ensures.reads f.current c.in-Taken.ensures.claims.0
-        (Fits-later q.view r.view _ _ f.current c.content_of.ensures.reads.follows (Fits-later c.args.self.now.view q.view _ _ c.requires.current f c.requires.path.fits))
-        c.content_of.ensures.content (same_content c.content_of.result c.args.content (sym c.if-eq.true ∙ c.eq.ensures)), tt)
+returns-then-eq-clause-answers g c = let q = c.claim.new.self in let r = c.content_of.new.self in let f = c.in-Taken.ensures.seeks.follows in (
+  taken_stands q r _ c.args.content c.content_of.result c.args.place c.in-Taken.handle.0 c.content_of.ensures.reads f.current c.in-Taken.ensures.claims.0
+      (Fits-later q.view r.view _ _ f.current c.content_of.ensures.reads.follows (Fits-later c.args.self.now.view q.view _ _ c.requires.current f c.requires.path.fits))
+      c.content_of.ensures.content (same_content c.content_of.result c.args.content (sym c.if-eq.true ∙ c.eq.ensures)),
+  tt,
+)
 
 pub returns-else-eq-clause-seeks : goal.returns-else-eq-clause-seeks
 returns-else-eq-clause-seeks g c = Seeks-reads c.args.self.now c.claim.new.self c.content_of.new.self _ c.in-Taken.ensures.seeks c.content_of.ensures.reads
