@@ -1,11 +1,11 @@
 -- Stores that grow, step by step.
-use Rattle.std.proofs.Common.{◌≡◌, ◌⊎◌, inl, inr, ℕ, ◌<◌, ◌≤◌, ℤ, List, [], ◌∷◌, ◌++◌, length, get_or, refl, sym, ◌∙◌, ap, subst, suc, zero, arith, length-append, append_assoc, Option, Some, None, IsSome, Contains, false}
+use Rattle.std.proofs.Common.{◌≡◌, ◌⊎◌, inl, inr, ℕ, ◌<◌, ℤ, List, [], ◌∷◌, ◌++◌, length, get_or, refl, sym, ◌∙◌, ap, subst, suc, zero, arith, length-append, append_assoc, Option, Some, None, IsSome, Contains}
 use Rattle.std.proofs.lemmas.List.{append-nil}
 use Rattle.std.proofs.lemmas.Bool.{false≢true}
-use Rattle.std.specs.Prelude.{unwrap_or, Result, Ok, Err, IfOk, OnErr, IsErr}
+use Rattle.std.specs.Prelude.{unwrap_or, Result, Ok, Err, OnErr, IsErr}
 use Rattle.lrc_store.specs.Cells.{CellTree, nil, number, pair, parts, IsWithin, HoldsParts}
 use Rattle.lrc_store.specs.Standing.{Standing, Stands, IsKnown, meant, Told}
-use Rattle.lrc_store.specs.Words.{Keeps, Grows, KeepsQuota, Draws, Adds, Puts, Stays, Reads, Tells, IsFullFor}
+use Rattle.lrc_store.specs.Words.{Keeps, Grows, KeepsQuota, Draws, Adds, Puts, Reads, Tells, IsFullFor}
 use Rattle.lrc_store.specs.declared.cells.Handle.{Handle}
 use Rattle.lrc_store.specs.declared.stores.Full.{Full}
 use Rattle.lrc_code.specs.Building.{MakesParts, DrawsPart, AddsParts, Lacks, Builds}

@@ -1,12 +1,12 @@
 -- The children of a node, one by one.
-use Rattle.std.proofs.Common.{◌≡◌, ℕ, zero, suc, ◌+◌, ◌-◌, ◌<◌, ◌≤◌, ℤ, Bool, true, false, ◌&&◌, List, [], ◌∷◌, length, map, drop, get_or, refl, sym, ◌∙◌, ap, subst, arith, add-one, drop-cons, Contains}
+use Rattle.std.proofs.Common.{◌≡◌, ℕ, zero, suc, ◌+◌, ◌-◌, ◌<◌, ◌≤◌, ℤ, Bool, true, false, ◌&&◌, List, [], ◌∷◌, length, map, drop, get_or, refl, sym, ◌∙◌, ap, subst, arith, drop-cons, Contains}
 use Rattle.std.specs.Prelude.{IsTrue, nat_lt}
 use borrow.Author.Tests.{ltb-true}
 use Rattle.lrc_base.specs.declared.term.Term.{Term}
 use Rattle.lrc_base.specs.declared.term.Term.TheVariants as v
-use Rattle.lrc_meaning.specs.Tree.{Tree, int, bool, name, node, tree, row}
+use Rattle.lrc_meaning.specs.Tree.{Tree, tree, row}
 use Rattle.lrc_meaning.proofs.TreeLemmas.{tree-Int, tree-Bool, tree-Name, tree-Node}
-use Rattle.lrc_store.specs.Cells.{CellTree, nil, number, pair, parts, IsWithin}
+use Rattle.lrc_store.specs.Cells.{CellTree, nil, number, parts, IsWithin}
 use Rattle.lrc_code.specs.Forms.{more_cell, list_cell, truth_cell, name_cell, node_cell, tree_cell, kid_cells, are_productions_below, are_kids_below}
 use Rattle.lrc_code.proofs.Growing.{left-within, right-within}
 

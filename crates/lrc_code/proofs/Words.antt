@@ -1,9 +1,9 @@
 -- The words of a name, one by one.
-use Rattle.std.proofs.Common.{◌≡◌, ℕ, zero, suc, ◌+◌, ◌-◌, ◌*◌, ◌<◌, ◌≤◌, min, List, [], ◌∷◌, ◌++◌, length, take, drop, refl, sym, ◌∙◌, ap, subst, arith, length-drop, Contains}
+use Rattle.std.proofs.Common.{◌≡◌, ℕ, zero, suc, ◌+◌, ◌-◌, ◌*◌, ◌<◌, min, List, [], ◌∷◌, ◌++◌, length, take, drop, refl, sym, ◌∙◌, ap, subst, arith, Contains}
 use Rattle.std.proofs.Math.ListN.{replicate}
 use Rattle.std.proofs.lemmas.List.{drop-drop}
 use Rattle.std.specs.Int.{div_ceil, from_le_bytes, cast_signed, w64}
-use Rattle.lrc_store.specs.Cells.{CellTree, nil, number, pair, parts, IsWithin}
+use Rattle.lrc_store.specs.Cells.{CellTree, number, pair, parts, IsWithin}
 use Rattle.lrc_code.specs.Forms.{word, words_cell, name_cell}
 use Rattle.lrc_code.proofs.Growing.{right-within}
 

@@ -1,5 +1,5 @@
 -- What a call does to a store that builds a cell of several rows.
-use Rattle.std.specs.Prelude.{ℕ, ◌≡◌, ◌⊎◌, List, ◌++◌, Option, Some, Contains, Result, IfOk, OnErr}
+use Rattle.std.specs.Prelude.{◌≡◌, ◌⊎◌, List, ◌++◌, Option, Some, Contains, Result, IfOk, OnErr}
 use Rattle.lrc_store.specs.Cells.{CellTree, parts, IsWithin}
 use Rattle.lrc_store.specs.Standing.{Standing}
 use Rattle.lrc_store.specs.Words.{Keeps, Grows, KeepsQuota, Tells, IsFullFor}

@@ -1,5 +1,5 @@
 -- The cells that stand for values, lists, calls of visits and their results.
-use Rattle.std.specs.Prelude.{ℕ, zero, suc, ◌≡◌, ◌+◌, ◌/◌, ◌<◌, ◌≤◌, ◌^◌, ℤ, pos, Bool, true, false, ◌&&◌, nat_lt, List, [], ◌∷◌, ◌++◌, length, take, drop, replicate, Contains}
+use Rattle.std.specs.Prelude.{ℕ, zero, suc, ◌+◌, ◌<◌, ◌≤◌, ℤ, pos, Bool, true, false, ◌&&◌, nat_lt, List, [], ◌∷◌, ◌++◌, length, take, drop, replicate, Contains}
 use Rattle.std.specs.Int.{div_ceil, from_le_bytes, cast_signed, w64}
 use Rattle.lrc_store.specs.Cells.{CellTree, nil, number, pair}
 use Rattle.lrc_meaning.specs.Tree.{Tree, Trees, int, bool, name, node, none, more}
@@ -82,23 +82,3 @@ abbrev mutual
   pub AreKidsSpelled : Trees → Type 0
   AreKidsSpelled none = Unit {0}
   AreKidsSpelled (more t ts) = AreSpelled t × AreKidsSpelled ts
-
--- the cell is a list with an item of this number
-abbrev pub HasItem : CellTree → ℕ → Type 0
-HasItem cell i = (items : List CellTree) × (i < length items) × (cell ≡ list_cell items)
-
--- the cell is a node's
-abbrev pub IsNode : CellTree → Type 0
-IsNode cell = (production : ℕ) × (kids : List CellTree) × (cell ≡ node_cell production (list_cell kids))
-
--- the cell is that of a node with a child of this number
-abbrev pub HasKid : CellTree → ℕ → Type 0
-HasKid cell i = (production : ℕ) × (kids : List CellTree) × (i < length kids) × (cell ≡ node_cell production (list_cell kids))
-
--- the cell is a call's
-abbrev pub IsCall : CellTree → Type 0
-IsCall cell = (tree : CellTree) × (visit : ℕ) × (inherited : CellTree) × (bindings : CellTree) × (cell ≡ call_cell tree visit inherited bindings)
-
--- the cell is a result's
-abbrev pub IsResult : CellTree → Type 0
-IsResult cell = (height : ℕ) × (synthesised : CellTree) × (bindings : CellTree) × (height < 2 ^ 32) × (cell ≡ result_cell height synthesised bindings)

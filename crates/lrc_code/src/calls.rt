@@ -1,9 +1,11 @@
 ghost use Rattle.std.specs.Prelude.{◌≡◌, ◌≤◌};
 ghost use Rattle.lrc_store.specs.Standing.{IsKnown, meant};
+ghost use Rattle.lrc_store.specs.Words.{Reads};
 ghost use Rattle.lrc_code.specs.Forms.{call_cell, result_cell};
 ghost use Rattle.lrc_code.specs.Building.{Builds};
+ghost use Rattle.lrc_code.specs.Reading.{IsCall, IsResult, HasCallParts, HasResultParts};
 
-use crate::pairs::{put_number, put_pair};
+use crate::pairs::{number_of, put_number, put_pair, sides_of};
 use lrc_store::{Full, Handle, Store};
 
 /// The tag of the two lists of a call or a result.
@@ -14,6 +16,27 @@ const RESULT: u32 = 6;
 
 /// The tag of a call of visit 0, which is none; those of the visits follow it.
 const CALL: u32 = 32;
+
+/// The parts of a call.
+#[derive(Debug, Clone, Copy, PartialEq, Eq)]
+pub struct CallParts {
+    pub tree: Handle,
+    pub visit: u32,
+    /// The list of inherited values.
+    pub inherited: Handle,
+    /// The list of bindings of earlier visits.
+    pub bindings: Handle,
+}
+
+/// The parts of a result.
+#[derive(Debug, Clone, Copy, PartialEq, Eq)]
+pub struct ResultParts {
+    pub height: u32,
+    /// The list of synthesised values.
+    pub synthesised: Handle,
+    /// The list of bindings for later visits.
+    pub bindings: Handle,
+}
 
 /// A handle of the call of this visit, from 1 to 223, of the tree, with the list of inherited values
 /// and the list of bindings of earlier visits.
@@ -59,4 +82,40 @@ pub fn put_result<St: Store>(
     let number = put_number(store, i64::from(height))?;
     let lists = put_pair(store, LISTS, synthesised, bindings)?;
     put_pair(store, RESULT, number, lists)
+}
+
+/// The parts of the call that the handle stands for.
+pub fn call_parts<St: Store>(store: &mut St, call: Handle) -> CallParts
+    requires known { IsKnown (St.state store.old) call.0 }
+    requires call { IsCall (meant (St.state store.old) call.0) }
+    ensures parts { HasCallParts (St.state store.new) (meant (St.state store.old) call.0) result }
+    ensures reads { Reads (St.state store.old) (St.state store.new) }
+    ensures same_meaning { St.meaning store.new ≡ St.meaning store.old }
+{
+    let whole = sides_of(store, call);
+    let lists = sides_of(store, whole.right);
+    CallParts {
+        tree: whole.left,
+        visit: whole.tag - CALL,
+        inherited: lists.left,
+        bindings: lists.right,
+    }
+}
+
+/// The parts of the result that the handle stands for.
+pub fn result_parts<St: Store>(store: &mut St, outcome: Handle) -> ResultParts
+    requires known { IsKnown (St.state store.old) outcome.0 }
+    requires outcome { IsResult (meant (St.state store.old) outcome.0) }
+    ensures parts { HasResultParts (St.state store.new) (meant (St.state store.old) outcome.0) result }
+    ensures reads { Reads (St.state store.old) (St.state store.new) }
+    ensures same_meaning { St.meaning store.new ≡ St.meaning store.old }
+{
+    let whole = sides_of(store, outcome);
+    let height = number_of(store, whole.left);
+    let lists = sides_of(store, whole.right);
+    ResultParts {
+        height: height as u32,
+        synthesised: lists.left,
+        bindings: lists.right,
+    }
 }

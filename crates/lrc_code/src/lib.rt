@@ -3,12 +3,16 @@
 #![tactic(auto)]
 
 mod calls;
+mod laws;
 mod lists;
 mod names;
 mod pairs;
 mod terms;
+#[cfg(test)]
+mod tests;
 
-pub use calls::{put_call, put_result};
-pub use lists::put_list;
+pub use calls::{CallParts, ResultParts, call_parts, put_call, put_result, result_parts};
+pub use laws::forms_are_injective;
+pub use lists::{item_of, put_list};
 pub use names::put_name;
-pub use terms::{put_bool, put_node, put_term};
+pub use terms::{kid_of, production_of, put_bool, put_node, put_term};

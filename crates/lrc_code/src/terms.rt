@@ -1,12 +1,15 @@
-ghost use Rattle.std.specs.Prelude.{◌≡◌, ◌<◌, IsTrue};
+ghost use Rattle.std.specs.Prelude.{◌≡◌, ◌<◌, ℕ, IsTrue};
 ghost use Rattle.lrc_meaning.specs.Tree.{tree};
+ghost use Rattle.lrc_store.specs.Cells.{CellTree};
 ghost use Rattle.lrc_store.specs.Standing.{IsKnown, meant};
+ghost use Rattle.lrc_store.specs.Words.{Reads};
 ghost use Rattle.lrc_code.specs.Forms.{truth_cell, node_cell, tree_cell, are_productions_below};
 ghost use Rattle.lrc_code.specs.Building.{Builds};
+ghost use Rattle.lrc_code.specs.Reading.{HasProduction, HasKid};
 
-use crate::lists::put_list;
+use crate::lists::{item_of, put_list};
 use crate::names::put_name;
-use crate::pairs::{nil_in, put_number, put_pair};
+use crate::pairs::{nil_in, put_number, put_pair, sides_of};
 use lrc_base::Term;
 use lrc_store::{Full, Handle, Store};
 
@@ -74,4 +77,28 @@ pub fn put_term<St: Store>(store: &mut St, term: &Term) -> Result<Handle, Full>
             put_node(store, *production, list)
         }
     }
+}
+
+/// The number of the production of the node that the handle stands for.
+pub fn production_of<St: Store>(store: &mut St, tree: Handle) -> u32
+    requires known { IsKnown (St.state store.old) tree.0 }
+    requires node { (production : ℕ) × HasProduction (meant (St.state store.old) tree.0) production }
+    ensures production { HasProduction (meant (St.state store.old) tree.0) result }
+    ensures reads { Reads (St.state store.old) (St.state store.new) }
+    ensures same_meaning { St.meaning store.new ≡ St.meaning store.old }
+{
+    sides_of(store, tree).tag - NODE
+}
+
+/// The child of this number, from 0, of the node that the handle stands for.
+pub fn kid_of<St: Store>(store: &mut St, tree: Handle, i: u32) -> Handle
+    requires known { IsKnown (St.state store.old) tree.0 }
+    requires kid { (kid : CellTree) × HasKid (meant (St.state store.old) tree.0) i kid }
+    ensures known { IsKnown (St.state store.new) result.0 }
+    ensures kid { HasKid (meant (St.state store.old) tree.0) i (meant (St.state store.new) result.0) }
+    ensures reads { Reads (St.state store.old) (St.state store.new) }
+    ensures same_meaning { St.meaning store.new ≡ St.meaning store.old }
+{
+    let kids = sides_of(store, tree).left;
+    item_of(store, kids, i)
 }

@@ -1,11 +1,11 @@
-use Rattle.std.proofs.Common.{◌≡◌, ap, arith, ◌∙◌}
+use Rattle.std.proofs.Common.{◌≡◌, ap, arith}
 use Rattle.std.proofs.lemmas.Int.{ints}
 use lib.IntN.{pos}
 use mir.Syntax.{w64}
 use mir.Val.{to_z, of_z}
-use Rattle.lrc_store.specs.Cells.{CellTree, number, pair}
+use Rattle.lrc_store.specs.Cells.{number}
 use Rattle.lrc_store.specs.Standing.{meant}
-use Rattle.lrc_code.proofs.Growing.{left-within, right-within, builds-stopped, builds-then, builds-as, same-pair, pair-then, adds-part, adds-then, kept-known, kept-meant, stands-meant}
+use Rattle.lrc_code.proofs.Growing.{left-within, right-within, builds-stopped, builds-then, builds-as, same-pair, pair-then, kept-meant, stands-meant}
 use Rattle.lrc_code.proofs.calls.put_result.Goals as goal
 
 pub returns-in_err-number-clause-builds : goal.returns-in_err-number-clause-builds

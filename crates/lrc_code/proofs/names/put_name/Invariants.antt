@@ -1,4 +1,4 @@
-use Rattle.std.proofs.Common.{◌≡◌, ◌*◌, ◌-◌, ◌≤◌, drop}
+use Rattle.std.proofs.Common.{◌≡◌, ◌*◌, ◌-◌, drop}
 use Rattle.lrc_store.specs.Words.{Tells}
 use Rattle.lrc_code.specs.Forms.{name_cell, words_cell}
 use Rattle.lrc_code.specs.Building.{AddsParts}

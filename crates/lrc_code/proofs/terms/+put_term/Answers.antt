@@ -1,4 +1,4 @@
-use Rattle.std.proofs.Common.{◌≡◌, ◌-◌, ◌∙◌, refl, sym, rules, arith, length, drop}
+use Rattle.std.proofs.Common.{◌≡◌, ◌∙◌, refl, sym, rules, arith}
 use Rattle.std.proofs.lemmas.Int.{ints}
 use mir.Syntax.{w64}
 use mir.Val.{SFits, to_z, of_z}

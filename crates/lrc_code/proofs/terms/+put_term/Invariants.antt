@@ -1,7 +1,7 @@
-use Rattle.std.proofs.Common.{◌≡◌, ℕ, ◌-◌, ◌<◌, map, length, drop, get_or}
+use Rattle.std.proofs.Common.{◌≡◌, ℕ, ◌-◌, ◌<◌, length, drop, get_or}
 use Rattle.std.specs.Prelude.{IsTrue}
 use Rattle.lrc_base.specs.declared.term.Term.{Term}
-use Rattle.lrc_meaning.specs.Tree.{tree, row}
+use Rattle.lrc_meaning.specs.Tree.{tree}
 use Rattle.lrc_store.specs.Words.{Tells}
 use Rattle.lrc_code.specs.Forms.{are_productions_below, tree_cell}
 use Rattle.lrc_code.specs.Building.{AddsParts}
