@@ -24,6 +24,7 @@ use Rattle.lrc_base.specs.declared.job.Job.{Job}
 use Rattle.lrc_meaning.specs.Tree.{Tree}
 use Rattle.lrc_meaning.specs.Expression.{expression}
 use Rattle.lrc_meaning.specs.Grammar.{Grammar}
+use Rattle.lrc_meaning.specs.Editing.{Change}
 use Rattle.lrc_meaning.specs.Plain.{is_sum, is_plain_attr, is_plain_production, is_plain}
 use Rattle.lrc_meaning.specs.Naming.{Called, each_some, sort_number, named_kind, named_attr, named_sort, named_kid, occurrence_number, leaf_number, or_leaf, named_expr, named_equation, called_occurrences, named_with, named_production, named_grammar}
 use Rattle.lrc_meaning.proofs.ExpressionLemmas.{expression_equations}
@@ -260,5 +261,5 @@ job_is_plain u job d g h =
     named_is_plain grammar.2 parts.0 parts.1 g named
 
 -- the grammar of a job that is built is plain
-pub built_is_plain : (bytes : List ℕ) (g : Grammar) (t : Tree) → IsBuilt bytes g t → IsTrue (is_plain g)
-built_is_plain bytes g t b = job_is_plain (lexemes bytes b.denotes.found) b.job b.denotes.derived g b.of_grammar.named
+pub built_is_plain : (bytes : List ℕ) (g : Grammar) (t : Tree) (cs : List Change) → IsBuilt bytes g t cs → IsTrue (is_plain g)
+built_is_plain bytes g t cs b = job_is_plain (lexemes bytes b.denotes.found) b.job b.denotes.derived g b.of_grammar.named

@@ -24,5 +24,5 @@ abbrev pub line_of : Failure → List ℕ
 line_of f = words_of f ++ 10 ∷ []
 
 -- the statuses that there are
-abbrev pub IsStatus : ℕ → Type 0
+unfoldable pub IsStatus : ℕ → Type 0
 IsStatus n = (n ≡ 0) ⊎ ((f : Failure) × (n ≡ status_of f))

@@ -1,14 +1,13 @@
 -- What a run is: from the bytes of a job to the text of its replies.
-use Rattle.std.specs.Prelude.{◌≡◌, ℕ, ◌≤◌, IsTrue, List, [], ◌∷◌, Option, Some}
-use Rattle.lrc_base.specs.declared.grammar.Kind.TheVariants as k
+use Rattle.std.specs.Prelude.{◌≡◌, ℕ, IsTrue, List, [], ◌∷◌, Option, Some}
 use Rattle.lrc_base.specs.declared.job.Job.{Job}
 use Rattle.lrc_base.specs.declared.job.RawScript.{RawScript}
 use Rattle.lrc_base.specs.declared.raw.RawGrammar.{RawGrammar}
-use Rattle.lrc_base.specs.declared.raw.RawTerm.{RawTerm}
-use Rattle.lrc_meaning.specs.Tree.{Tree, fits, tree_height}
+use Rattle.lrc_meaning.specs.Tree.{Tree}
 use Rattle.lrc_meaning.specs.Grammar.{Grammar, is_well_formed}
-use Rattle.lrc_meaning.specs.Naming.{named_grammar, named_tree}
-use Rattle.lrc_meaning.specs.Editing.{Reply, ReplyRun, never_full}
+use Rattle.lrc_meaning.specs.Naming.{named_grammar}
+use Rattle.lrc_meaning.specs.Accepted.{IsScriptOf}
+use Rattle.lrc_meaning.specs.Editing.{Change, Reply, ReplyRun, never_full}
 use Rattle.lrc_meaning.specs.Text.{unparsed, run_text}
 use Rattle.lrc_reader.specs.Denotes.{Denotes}
 
@@ -16,38 +15,32 @@ use Rattle.lrc_reader.specs.Denotes.{Denotes}
 abbrev pub depth_limit : ℕ
 depth_limit = 500
 
--- the job has another number of sessions than one, or its session has edits
+-- the job has another number of sessions than one
 abbrev pub HasNoScript : Job → Type 0
-HasNoScript job = (s : RawScript) → job.sessions ≡ s ∷ [] → s.edits ≡ [] → ⊥
+HasNoScript job = (s : RawScript) → job.sessions ≡ s ∷ [] → ⊥
 
 -- the grammar that is written, which is well formed
 pub record IsGrammarOf (raw : RawGrammar) (grammar : Grammar) : Type 0 where
   pub named : named_grammar raw ≡ Some grammar
   pub well_formed : IsTrue (is_well_formed grammar)
 
--- the tree that is written, which is of the start sort and within the depth limit
-pub record IsTreeOf (grammar : Grammar) (raw : RawTerm) (opening : Tree) : Type 0 where
-  pub named : named_tree grammar.prods raw ≡ Some opening
-  pub fitting : IsTrue (fits grammar.prods opening (k.Sort grammar.start))
-  pub within : tree_height opening ≤ depth_limit
-
--- The bytes are a job that is built, of this grammar and with one session, on this tree.
-pub record IsBuilt (bytes : List ℕ) (grammar : Grammar) (opening : Tree) : Type 0 where
+-- The bytes are a job that is built, of this grammar and with one session, on this tree and with these edits.
+pub record IsBuilt (bytes : List ℕ) (grammar : Grammar) (opening : Tree) (changes : List Change) : Type 0 where
   pub job : Job
   pub script : RawScript
   pub denotes : Denotes bytes job
   pub one_session : job.sessions ≡ script ∷ []
-  pub no_edits : script.edits ≡ []
   pub of_grammar : IsGrammarOf job.grammar grammar
-  pub of_tree : IsTreeOf grammar script.tree opening
+  pub of_script : IsScriptOf grammar script opening changes
 
 -- The text is that of a run of the job: each reply is the root's synthesised attributes in an attribution of the
--- session's tree, or the refusal that the editing rules name, and then the final line of the last tree.
+-- session's tree after the edit, or the refusal that the editing rules name, and then the final line of the last tree.
 pub record IsRunOf (bytes text : List ℕ) : Type 0 where
   pub grammar : Grammar
   pub opening : Tree
-  pub built : IsBuilt bytes grammar opening
+  pub changes : List Change
+  pub built : IsBuilt bytes grammar opening changes
   pub replies : List Reply
   pub last : Option Tree
-  pub runs : ReplyRun grammar depth_limit (unparsed grammar.prods) never_full opening [] replies last
+  pub runs : ReplyRun grammar depth_limit (unparsed grammar.prods) never_full opening changes replies last
   pub prints : text ≡ run_text grammar (replies ∷ []) (last ∷ [])

@@ -1,6 +1,6 @@
 pub mod Words
 pub mod Faults
-pub mod Opening
+pub mod Printed
 pub mod Line
 pub mod Headline
 pub mod Status

@@ -3,6 +3,7 @@ use Rattle.std.specs.Prelude.{◌≡◌, ℕ, List, [], Option, Some, None, ⊤}
 use Rattle.std.specs.Io.KnownBytes.{Appends}
 use Rattle.lrc_meaning.specs.Tree.{Tree}
 use Rattle.lrc_meaning.specs.Grammar.{Grammar}
+use Rattle.lrc_meaning.specs.Editing.{Change}
 use Rattle.lrc_outside.specs.Known.{TakesUpTo, AppendsPart}
 use Rattle.lrc_cli.specs.Headline.{IsBuilt, IsRunOf}
 
@@ -35,9 +36,9 @@ pub record Unwritten (left left' held held' : Option (List ℕ)) : Type 0 where
 pub record Refused (left left' : Option (List ℕ)) : Type 0 where
   pub input : List ℕ
   pub read : TakesUpTo input_limit left left' input
-  pub not_built : (grammar : Grammar) (opening : Tree) → ¬ IsBuilt input grammar opening
+  pub not_built : (grammar : Grammar) (opening : Tree) (changes : List Change) → ¬ IsBuilt input grammar opening changes
 
 -- the source tells its bytes, and they are a job that is built
 abbrev pub HoldsJob : Option (List ℕ) → Type 0
 HoldsJob None = ⊥
-HoldsJob (Some bytes) = (grammar : Grammar) × (opening : Tree) × IsBuilt bytes grammar opening
+HoldsJob (Some bytes) = (grammar : Grammar) × (opening : Tree) × (changes : List Change) × IsBuilt bytes grammar opening changes

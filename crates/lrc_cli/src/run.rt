@@ -1,28 +1,31 @@
-ghost use Rattle.std.specs.Prelude.{◌≡◌, ◌≤◌, ℕ, List, [], ◌∷◌, length, MatchOption, IfOk, IfSome};
+ghost use Rattle.std.specs.Prelude.{◌≡◌, ◌≤◌, ℕ, IsTrue, List, [], ◌∷◌, map, length, MatchOption, IfOk, IfSome};
 ghost use Rattle.lrc_base.specs.declared.job.Job.{Job};
 ghost use Rattle.lrc_meaning.specs.Grammar as meaning;
 ghost use Rattle.lrc_meaning.specs.Limits.{KeepsLimits};
 ghost use Rattle.lrc_meaning.specs.Tree.{Tree, tree};
+ghost use Rattle.lrc_meaning.specs.Editing.{Change, change};
+ghost use Rattle.lrc_script.specs.Script.{are_fitting_puts};
 ghost use Rattle.lrc_grammar.specs.Grammar.{grammar_of};
 ghost use Rattle.lrc_reader.specs.Denotes.{Denotes};
-ghost use Rattle.lrc_cli.specs.Headline.{HasNoScript, IsGrammarOf, IsTreeOf, IsBuilt, IsRunOf};
+ghost use Rattle.lrc_cli.specs.Headline.{HasNoScript, IsGrammarOf, IsBuilt, IsRunOf};
 
-use crate::text::opening_text;
-use lrc_base::{Job, Kind, Memory, RawGrammar, RawScript, RawTerm, Term};
-use lrc_grammar::{Grammar, attrs_of_sort, fits, is_within};
-use lrc_naming::{named_grammar, named_tree};
+use crate::text::session_text;
+use lrc_accept::accepted;
+use lrc_base::{Job, Memory, RawGrammar, RawScript, Script};
+use lrc_grammar::{Grammar, attrs_of_sort};
+use lrc_naming::named_grammar;
 use lrc_reader::{JobFault, one_job, read_job};
-use lrc_scratch::{attributes, plain_attributions};
+use lrc_script::{one_session, replies};
 use std::alloc::{AllocError, Global};
 
 /// The most nodes on the longest path of a tree that is evaluated.
 const DEPTH_LIMIT: u32 = 500;
 
-/// A grammar, and a tree of its start sort.
+/// A grammar, and a session over it.
 #[derive(Drop)]
-struct Opening {
+struct Session {
     grammar: Grammar,
-    tree: Term,
+    script: Script,
 }
 
 /// The job that the bytes denote; None where they denote none.
@@ -38,12 +41,12 @@ fn job_of(alloc: Global, bytes: &[u8]) -> Result<Option<Job>, Memory>
     }
 }
 
-/// The one session of a job, where it has no edits.
+/// The one session of a job; None where it has another number of them.
 fn script_of(job: &Job) -> Option<&RawScript>
-    ensures { MatchOption result (HasNoScript job.now) (λ script. (job.now.sessions ≡ script.now ∷ []) × (script.now.edits ≡ [])) }
+    ensures { MatchOption result (HasNoScript job.now) (λ script. job.now.sessions ≡ script.now ∷ []) }
 {
     match job.sessions.as_slice() {
-        [script] if script.edits.is_empty() => Some(script),
+        [script] => Some(script),
         _ => None,
     }
 }
@@ -61,25 +64,11 @@ fn grammar_from(alloc: Global, raw: &RawGrammar) -> Result<Option<Grammar>, Memo
     Grammar::new(alloc, numbered.sorts, numbered.prods, numbered.start)
 }
 
-/// The tree that is written; None where a production's name is unknown, or where the tree is not of
-/// the start sort or above the depth limit.
-fn tree_from(alloc: Global, grammar: &Grammar, raw: &RawTerm) -> Result<Option<Term>, Memory>
-    requires { length grammar.now.prods ≤ 256 }
-    ensures { IfOk result
-        (λ found. MatchOption found ((t : Tree) → ¬ IsTreeOf (grammar_of grammar.now) raw.now t) (λ t. IsTreeOf (grammar_of grammar.now) raw.now (tree t))) }
-{
-    let prods = grammar.prods.as_slice();
-    let Some(tree) = named_tree(alloc, prods, raw)? else {
-        return Ok(None);
-    };
-    let is_taken = fits(prods, &tree, Kind::Sort(grammar.start)) && is_within(&tree, DEPTH_LIMIT);
-    if is_taken { Ok(Some(tree)) } else { Ok(None) }
-}
-
-/// The grammar and the tree of a job; None where the bytes are no job that is built.
-fn opening_from(alloc: Global, bytes: &[u8]) -> Result<Option<Opening>, Memory>
-    ensures { IfOk result
-        (λ found. MatchOption found ((g : meaning.Grammar) (t : Tree) → ¬ IsBuilt bytes.now g t) (λ o. IsBuilt bytes.now (grammar_of o.grammar) (tree o.tree))) }
+/// The grammar and the session of a job; None where the bytes are no job that is built.
+fn session_from(alloc: Global, bytes: &[u8]) -> Result<Option<Session>, Memory>
+    ensures built { IfOk result
+        (λ found. MatchOption found ((g : meaning.Grammar) (t : Tree) (cs : List Change) → ¬ IsBuilt bytes.now g t cs) (λ s. IsBuilt bytes.now (grammar_of s.grammar) (tree s.script.tree) (map change s.script.edits))) }
+    ensures puts { IfOk result (λ found. IfSome found (λ s. IsTrue (are_fitting_puts s.grammar.prods s.script.edits))) }
 {
     one_job();
     let Some(job) = job_of(alloc, bytes)? else {
@@ -91,33 +80,32 @@ fn opening_from(alloc: Global, bytes: &[u8]) -> Result<Option<Opening>, Memory>
     let Some(grammar) = grammar_from(alloc, &job.grammar)? else {
         return Ok(None);
     };
-    let Some(tree) = tree_from(alloc, &grammar, &script.tree)? else {
+    let Some(script) = accepted(alloc, &grammar, script)? else {
         return Ok(None);
     };
-    Ok(Some(Opening { grammar, tree }))
+    Ok(Some(Session { grammar, script }))
 }
 
 /// The text of a run of a job; None where the bytes are no job that is built.
 pub fn run_text(alloc: Global, bytes: &[u8]) -> Result<Option<Vec<u8>>, Memory>
     ensures { IfOk result
-        (λ o. MatchOption o ((g : meaning.Grammar) (t : Tree) → ¬ IsBuilt bytes.now g t) (λ text. IsRunOf bytes.now text.items)) }
+        (λ o. MatchOption o ((g : meaning.Grammar) (t : Tree) (cs : List Change) → ¬ IsBuilt bytes.now g t cs) (λ text. IsRunOf bytes.now text.items)) }
 {
-    let Some(opening) = opening_from(alloc, bytes)? else {
+    let Some(session) = session_from(alloc, bytes)? else {
         return Ok(None);
     };
-    let sorts = opening.grammar.sorts.as_slice();
-    let prods = opening.grammar.prods.as_slice();
-    let start = opening.grammar.start;
-    let values = attributes(alloc, sorts, prods, start, &opening.tree)?;
-    let text = opening_text(alloc, attrs_of_sort(sorts, start), values.as_slice())?;
+    let grammar = &session.grammar;
+    let replies = replies(alloc, grammar, &session.script, DEPTH_LIMIT)?;
+    let attrs = attrs_of_sort(grammar.sorts.as_slice(), grammar.start);
+    let text = session_text(alloc, attrs, &replies)?;
     Ok(Some(text))
 }
 
-/// The text of a run is fixed by the bytes of the job: they denote one job, and its tree has one
-/// attribution.
+/// The text of a run is fixed by the bytes of the job: they denote one job, and its session has one
+/// list of replies.
 pub fn one_text()
     ensures { (bytes text other : List ℕ) → IsRunOf bytes text → IsRunOf bytes other → text ≡ other }
 {
     one_job();
-    plain_attributions();
+    one_session();
 }

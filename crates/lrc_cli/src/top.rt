@@ -63,7 +63,8 @@ fn run<S: Source, O: Sink>(
 /// Reads the words of a command line and a job, runs the job, and writes the text of the run; or
 /// prints the line of the first fault. Answers the status with which the program ends.
 ///
-/// Every session is answered by the root's synthesised attributes in an attribution of its tree.
+/// The session's opening and each of its edits are answered by the root's synthesised attributes in
+/// an attribution of its tree as it is then, or by the refusal that the editing rules name.
 pub fn lrc<R: Threads + Sync, S: Source, O: Sink, E: Sink>(
     rt: &R,
     alloc: Global,

@@ -1,6 +1,7 @@
 -- Each reading reads exactly its part of the grammar.
 use Rattle.std.proofs.Common.{◌≡◌, ℕ, zero, suc, ℤ, true, false, Some, List, [], ◌∷◌, refl, sym, lit≤}
 use Rattle.lrc_base.specs.declared.raw.RawTerm.{RawTerm}
+use Rattle.lrc_base.specs.declared.job.Path.{Path}
 use Rattle.lrc_parse.specs.Kinds.{has, disjoint}
 use Rattle.lrc_parse.specs.Language.{Lang, Empty, One, Given, Either, Optional, Many, Most, Loop, Separated}
 use Rattle.lrc_parse.specs.Reading.{took, on_took, nested, read_empty, read_given, read_either}
@@ -12,10 +13,10 @@ use Rattle.lrc_reader.specs.declared.lexeme.Lexeme.{Lexeme}
 use Rattle.lrc_reader.specs.declared.lexeme.Lexeme.TheVariants as l
 use Rattle.lrc_reader.specs.declared.lexeme.Mark.{Mark}
 use Rattle.lrc_reader.specs.declared.lexeme.Mark.TheVariants as m
-use Rattle.lrc_reader.specs.Lexeme.{kind, number, word_of, natural_of}
-use Rattle.lrc_reader.specs.Grammar.{Name, IsWord, IsNumber, mark, IsAttr, IsSort, IsIntKind, IsNamedKind, IsKid, IsKids, IsReference, IsLiteral, IsAtom, Counted, sum_and, IsAddend, IsSum, IsEquation, IsItems, IsProd, IsLeaf, IsNode, IsTerm, one_of, IsStart, IsGrammar, IsSession, IsJob}
+use Rattle.lrc_reader.specs.Lexeme.{kind, number, word_of, natural_of, path_of, path_kind}
+use Rattle.lrc_reader.specs.Grammar.{Name, IsWord, IsNumber, IsPath, mark, IsAttr, IsSort, IsIntKind, IsNamedKind, IsKid, IsKids, IsReference, IsLiteral, IsAtom, Counted, sum_and, IsAddend, IsSum, IsEquation, IsItems, IsProd, IsLeaf, IsNode, IsTerm, one_of, IsStart, IsGrammar, IsEdit, IsSession, IsJob}
 use Rattle.lrc_reader.specs.Reading as reading
-use Rattle.lrc_reader.specs.Reading.{Reader, pass, words, naturals, values, only, read_word, read_number, read_attr, read_push_attr, read_attrs, read_more_attrs, read_sort, read_int_kind, read_named_kind, read_kind, read_kid, read_push_kid, read_some_kids, read_more_kids, read_any_kids, read_kids, read_dot_word, read_attribute_of, read_reference, read_literal, read_atom, read_joined_atom, read_addend, read_addends, read_sum, read_equation, read_equations, read_items, read_prod, read_prods, read_leaf, read_push_term, read_some_terms, read_more_terms, read_any_terms, read_node, read_term_over, read_term, read_one_number, read_start, read_grammar, read_session, read_all}
+use Rattle.lrc_reader.specs.Reading.{Reader, pass, words, naturals, values, only, read_word, read_number, read_path, read_attr, read_push_attr, read_attrs, read_more_attrs, read_sort, read_int_kind, read_named_kind, read_kind, read_kid, read_push_kid, read_some_kids, read_more_kids, read_any_kids, read_kids, read_dot_word, read_attribute_of, read_reference, read_literal, read_atom, read_joined_atom, read_addend, read_addends, read_sum, read_equation, read_equations, read_items, read_prod, read_prods, read_leaf, read_push_term, read_some_terms, read_more_terms, read_any_terms, read_node, read_term_over, read_term, read_one_number, read_start, read_grammar, read_edit, read_edits, read_session, read_all}
 use Rattle.lrc_reader.proofs.Turns.{separated_is, separated_most_is}
 
 -- ---- the combinators, with what their arguments tell left out
@@ -43,20 +44,30 @@ same_reading {s = s} {L = L} {a = a} {b = b} e f = exact_as kind s L L a b e (λ
 word_among : (t : Lexeme) (x : Name) → word_of t ≡ Some x → has words (kind t) ≡ true
 word_among (l.Word name) x e = refl
 word_among (l.Natural value) x e = cc
+word_among (l.Path path) x e = cc
 word_among l.Other x e = cc
 word_among (l.Mark m) x e = cc
 
 natural_among : (t : Lexeme) (x : ℤ) → natural_of t ≡ Some x → has naturals (kind t) ≡ true
 natural_among (l.Word name) x e = cc
 natural_among (l.Natural value) x e = refl
+natural_among (l.Path path) x e = cc
 natural_among l.Other x e = cc
 natural_among (l.Mark m) x e = cc
 
 one_among : (t : Lexeme) (x : Unit {0}) → one_of t ≡ Some x → has naturals (kind t) ≡ true
 one_among (l.Word name) x e = cc
 one_among (l.Natural value) x e = refl
+one_among (l.Path path) x e = cc
 one_among l.Other x e = cc
 one_among (l.Mark m) x e = cc
+
+path_among : (t : Lexeme) (x : Path) → path_of t ≡ Some x → has (path_kind ∷ []) (kind t) ≡ true
+path_among (l.Word name) x e = cc
+path_among (l.Natural value) x e = cc
+path_among (l.Path path) x e = refl
+path_among l.Other x e = cc
+path_among (l.Mark m) x e = cc
 
 exact_word : Exact kind (shape_one words) IsWord read_word
 unfolding read_word
@@ -65,6 +76,10 @@ exact_word = exact_one kind words word_of word_among
 exact_number : Exact kind (shape_one naturals) IsNumber read_number
 unfolding read_number
 exact_number = exact_one kind naturals natural_of natural_among
+
+exact_path : Exact kind (shape_one (path_kind ∷ [])) IsPath read_path
+unfolding read_path
+exact_path = exact_one kind (path_kind ∷ []) path_of path_among
 
 exact_one_number : Exact kind (shape_one naturals) (One one_of) read_one_number
 unfolding read_one_number
@@ -226,10 +241,18 @@ exact_grammar : Exact kind (begins (only m.Sort)) IsGrammar read_grammar
 unfolding read_grammar
 exact_grammar = then exact_sort (λ sort. then exact_prods (λ prods. then exact_start (λ start. end _) refl) refl) refl
 
+pub exact_edit : Exact kind (begins (only m.Put)) IsEdit read_edit
+unfolding read_edit
+exact_edit = then (exact_mark m.Put) (λ _. then exact_path (λ path. then (exact_term 1000) (λ tree. then (exact_mark m.Semicolon) (λ _. end _) refl) refl) refl) refl
+
+exact_edits : Exact kind (record { first = only m.Put; empty = true; more = only m.Put }) (Most 10000 (Many IsEdit)) (read_edits [])
+unfolding read_edits
+exact_edits = exact_most kind 10000 (begins (only m.Put)) reading.edits_limit IsEdit read_edit refl refl exact_edit
+
 exact_session : Exact kind (begins (only m.Session)) IsSession read_session
 unfolding read_session
 exact_session =
-    then (exact_mark m.Session) (λ _. then (exact_mark m.On) (λ _. then (exact_term 1000) (λ tree. then (exact_mark m.LeftBrace) (λ _. then (exact_mark m.RightBrace) (λ _. end _) refl) refl) refl) refl) refl
+    then (exact_mark m.Session) (λ _. then (exact_mark m.On) (λ _. then (exact_term 1000) (λ tree. then (exact_mark m.LeftBrace) (λ _. then exact_edits (λ edits. then (exact_mark m.RightBrace) (λ _. end _) refl) refl) refl) refl) refl) refl
 
 pub exact_job : Exact kind (begins (only m.Lrc)) IsJob read_all
 unfolding IsJob read_all

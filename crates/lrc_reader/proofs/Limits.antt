@@ -1,5 +1,5 @@
 -- A grammar that is read keeps the limits.
-use Rattle.std.proofs.Common.{◌≡◌, ℕ, ◌≤◌, List, [], ◌∷◌, length, sym, subst, lit≤, inl, inr, Result, Ok, Err, IfOk}
+use Rattle.std.proofs.Common.{◌≤◌, List, [], ◌∷◌, length, sym, subst, lit≤, inl, inr, Result, Ok, Err, IfOk}
 use Rattle.std.specs.List.{AllByRecursion}
 use Rattle.std.proofs.lemmas.List.Elements.{All-from_recursion}
 use Rattle.lrc_base.specs.declared.raw.RawSort.{RawSort}

@@ -5,6 +5,7 @@ use Rattle.lrc_base.specs.declared.raw.RawKid.{RawKid}
 use Rattle.lrc_base.specs.declared.raw.RawItem.{RawItem}
 use Rattle.lrc_base.specs.declared.raw.RawProd.{RawProd}
 use Rattle.lrc_base.specs.declared.raw.RawTerm.{RawTerm}
+use Rattle.lrc_base.specs.declared.job.RawEdit.{RawEdit}
 use Rattle.lrc_parse.specs.Kinds.{starts}
 use Rattle.lrc_parse.specs.Language.{Empty, Given, Within}
 use Rattle.lrc_parse.specs.Reading.{took, read_of, read_push, read_many, read_most, read_push_most}
@@ -16,12 +17,12 @@ use Rattle.lrc_parse.proofs.Whole.{shorter}
 use Rattle.lrc_reader.specs.declared.lexeme.Lexeme.{Lexeme}
 use Rattle.lrc_reader.specs.declared.lexeme.Mark.TheVariants as m
 use Rattle.lrc_reader.specs.Lexeme.{kind, number}
-use Rattle.lrc_reader.specs.Grammar.{mark, IsAttr, IsKid, Counted, IsEquation, IsProd, IsTerm}
+use Rattle.lrc_reader.specs.Grammar.{mark, IsAttr, IsKid, Counted, IsEquation, IsProd, IsTerm, IsEdit}
 use Rattle.lrc_reader.specs.Gives.{Stops}
 use Rattle.lrc_reader.specs.Reading as reading
-use Rattle.lrc_reader.specs.Reading.{Reader, pass, words, values, only, read_attr, read_push_attr, read_another_attr, read_more_attrs, read_kid, read_push_kid, read_another_kid, read_more_kids, read_addend, read_addends, read_equation, read_push_equation, read_equations, read_prod, read_another_prod, read_prods, read_term, read_push_term, read_another_term, read_more_terms}
+use Rattle.lrc_reader.specs.Reading.{Reader, pass, words, values, only, read_attr, read_push_attr, read_another_attr, read_more_attrs, read_kid, read_push_kid, read_another_kid, read_more_kids, read_addend, read_addends, read_equation, read_push_equation, read_equations, read_prod, read_another_prod, read_prods, read_term, read_push_term, read_another_term, read_more_terms, read_edit, read_another_edit, read_edits}
 use Rattle.lrc_reader.proofs.Turns.{loop_turn, loop_stops, others_turn, others_stops, others_most_turn, others_most_stops}
-use Rattle.lrc_reader.proofs.Exactly.{then, end, begins, exact_mark, exact_attr, exact_kid, exact_addend, exact_equation, exact_prod, exact_term}
+use Rattle.lrc_reader.proofs.Exactly.{then, end, begins, exact_mark, exact_attr, exact_kid, exact_addend, exact_equation, exact_prod, exact_term, exact_edit}
 
 -- ---- attributes
 
@@ -162,3 +163,25 @@ term_stops levels xs u e h = others_stops (number m.Comma) (read_term levels) xs
 pub term_end : (levels : ℕ) (xs : List RawTerm) (u : List Lexeme) → starts kind (only m.Comma) u ≡ false → read_more_terms (read_term levels) xs u ≡ took xs u
 unfolding read_more_terms
 term_end levels xs u e = read_others_end kind (number m.Comma) (read_term levels) xs u e
+
+-- ---- edits
+
+another_edit : (xs : List RawEdit) →
+    Exact kind (begins (only m.Put)) (Within (ltb (length xs) 10000) (Given IsEdit (λ x. Empty (xs ++ x ∷ [])))) (read_another_edit xs)
+unfolding read_another_edit
+another_edit xs = exact_within kind _ (begins (only m.Put)) reading.edits_limit _ _ (then exact_edit (λ x. end _) refl)
+
+pub edit_shorter : (xs zs : List RawEdit) (u r : List Lexeme) → read_another_edit xs u ≡ took zs r → length r < length u
+edit_shorter xs zs u r e = shorter kind _ _ _ (another_edit xs) refl u r zs e
+
+pub edit_turn : (xs zs : List RawEdit) (u r : List Lexeme) → starts kind (only m.Put) u ≡ true → read_another_edit xs u ≡ took zs r → read_edits xs u ≡ read_edits zs r
+unfolding read_edits read_most read_push_most read_push read_of read_another_edit
+edit_turn xs zs u r e f = loop_turn (only m.Put) _ xs zs u r e f (edit_shorter xs zs u r f)
+
+pub edit_stops : (xs : List RawEdit) (u : List Lexeme) → starts kind (only m.Put) u ≡ true → Stops (read_another_edit xs u) → Stops (read_edits xs u)
+unfolding read_edits read_most read_push_most read_push read_of read_another_edit
+edit_stops xs u e h = loop_stops (only m.Put) read_another_edit xs u e h
+
+pub edit_end : (xs : List RawEdit) (u : List Lexeme) → starts kind (only m.Put) u ≡ false → read_edits xs u ≡ took xs u
+unfolding read_edits
+edit_end xs u e = read_most_end kind 10000 (only m.Put) reading.edits_limit read_edit xs u e

@@ -15,6 +15,9 @@ use Rattle.lrc_base.specs.declared.raw.RawProd.{RawProd}
 use Rattle.lrc_base.specs.declared.raw.RawTerm.{RawTerm}
 use Rattle.lrc_base.specs.declared.raw.RawTerm.TheVariants as t
 use Rattle.lrc_base.specs.declared.raw.RawGrammar.{RawGrammar}
+use Rattle.lrc_base.specs.declared.job.Path.{Path}
+use Rattle.lrc_base.specs.declared.job.RawEdit.{RawEdit}
+use Rattle.lrc_base.specs.declared.job.RawEdit.TheVariants as edit
 use Rattle.lrc_base.specs.declared.job.RawScript.{RawScript}
 use Rattle.lrc_base.specs.declared.job.Job.{Job}
 use Rattle.lrc_parse.specs.Language.{Lang, Nothing, Empty, One, Given, Either, Optional, Within, Many, Most, Loop, Fixed, Separated}
@@ -22,7 +25,7 @@ use Rattle.lrc_reader.specs.declared.lexeme.Lexeme.{Lexeme}
 use Rattle.lrc_reader.specs.declared.lexeme.Lexeme.TheVariants as l
 use Rattle.lrc_reader.specs.declared.lexeme.Mark.{Mark}
 use Rattle.lrc_reader.specs.declared.lexeme.Mark.TheVariants as m
-use Rattle.lrc_reader.specs.Lexeme.{kind, number, word_of, natural_of}
+use Rattle.lrc_reader.specs.Lexeme.{kind, number, word_of, natural_of, path_of}
 
 -- ---- one part after another, with its value
 
@@ -47,6 +50,9 @@ IsWord = One word_of
 
 abbrev pub IsNumber : Lang Lexeme ℤ
 IsNumber = One natural_of
+
+abbrev pub IsPath : Lang Lexeme Path
+IsPath = One path_of
 
 abbrev pub mark : Mark → Lang Lexeme (Unit {0})
 mark m = Fixed kind (number m)
@@ -209,7 +215,7 @@ unfoldable pub IsTerm : ℕ → Lang Lexeme RawTerm
 IsTerm zero = Nothing
 IsTerm (suc levels) = Either IsLeaf (IsNode (IsTerm levels))
 
--- ---- the header, the grammar and its session
+-- ---- the header and the grammar
 
 abbrev pub one_of : Lexeme → Option (Unit {0})
 one_of (l.Natural value) = if int_eq value (pos 1) then Some tt else None
@@ -234,18 +240,33 @@ IsGrammar = do
   start ← IsStart
   pure (grammar_of sort prods start)
 
-abbrev pub script_of : RawTerm → RawScript
-script_of tree = record { tree = tree; edits = [] }
+-- ---- the session and the whole
 
--- "session" "on" term "{" "}"
+abbrev pub put_of : Path → RawTerm → RawEdit
+put_of path tree = edit.Put path tree
+
+-- "put" Path term ";"
+abbrev pub IsEdit : Lang Lexeme RawEdit
+IsEdit = do
+  mark m.Put
+  path ← IsPath
+  tree ← IsTerm 1000
+  mark m.Semicolon
+  pure (put_of path tree)
+
+abbrev pub script_of : RawTerm → List RawEdit → RawScript
+script_of tree edits = record { tree = tree; edits = edits }
+
+-- "session" "on" term "{" { edit } "}", with at most 10,000 edits
 abbrev pub IsSession : Lang Lexeme RawScript
 IsSession = do
   mark m.Session
   mark m.On
   tree ← IsTerm 1000
   mark m.LeftBrace
+  edits ← Most 10000 (Many IsEdit)
   mark m.RightBrace
-  pure (script_of tree)
+  pure (script_of tree edits)
 
 abbrev pub job_of : RawGrammar → RawScript → Job
 job_of grammar script = record { grammar = grammar; sessions = script ∷ [] }

@@ -4,7 +4,9 @@ use Rattle.std.specs.Str.{bytes_eq}
 use Rattle.lrc_lex.specs.declared.Token.{Token}
 use Rattle.lrc_lex.specs.declared.TokenClass.{TokenClass}
 use Rattle.lrc_lex.specs.declared.TokenClass.TheVariants as class
+use Rattle.lrc_base.specs.declared.job.Path.{Path}
 use Rattle.lrc_lex.specs.Decimal.{natural_value}
+use Rattle.lrc_reader.specs.Place.{place}
 use Rattle.lrc_reader.specs.declared.lexeme.Mark.{Mark}
 use Rattle.lrc_reader.specs.declared.lexeme.Mark.TheVariants as m
 use Rattle.lrc_reader.specs.declared.lexeme.Lexeme.{Lexeme}
@@ -78,7 +80,7 @@ seen class.Natural spelling = l.Natural (pos (natural_value spelling))
 seen class.Negative spelling = l.Other
 seen class.NameLit spelling = l.Other
 seen class.Text spelling = l.Other
-seen class.Path spelling = l.Other
+seen class.Path spelling = l.Path (place spelling)
 
 abbrev pub lexeme_of : List ℕ → Token → Lexeme
 lexeme_of text t = seen t.class (slice_range text t.at t.end)
@@ -86,45 +88,45 @@ lexeme_of text t = seen t.class (slice_range text t.at t.end)
 abbrev pub lexemes : List ℕ → List Token → List Lexeme
 lexemes text toks = map (lexeme_of text) toks
 
--- marks by number; 0, 1 and 2 are the kinds of other lexemes
+-- marks by number; 0 to 3 are the kinds of other lexemes
 abbrev pub number : Mark → ℕ
-number m.LeftBrace = 3
-number m.RightBrace = 4
-number m.LeftParen = 5
-number m.RightParen = 6
-number m.Colon = 7
-number m.Semicolon = 8
-number m.Comma = 9
-number m.Dot = 10
-number m.Equals = 11
-number m.SameAs = 12
-number m.Less = 13
-number m.Plus = 14
-number m.Minus = 15
-number m.Star = 16
-number m.Lrc = 17
-number m.Sort = 18
-number m.Prod = 19
-number m.Start = 20
-number m.Session = 21
-number m.Inh = 22
-number m.Syn = 23
-number m.Local = 24
-number m.Attach = 25
-number m.Text = 26
-number m.On = 27
-number m.Put = 28
-number m.Copy = 29
-number m.Show = 30
-number m.Forget = 31
-number m.If = 32
-number m.Then = 33
-number m.Else = 34
-number m.True = 35
-number m.False = 36
-number m.Int = 37
-number m.Bool = 38
-number m.Name = 39
+number m.LeftBrace = 4
+number m.RightBrace = 5
+number m.LeftParen = 6
+number m.RightParen = 7
+number m.Colon = 8
+number m.Semicolon = 9
+number m.Comma = 10
+number m.Dot = 11
+number m.Equals = 12
+number m.SameAs = 13
+number m.Less = 14
+number m.Plus = 15
+number m.Minus = 16
+number m.Star = 17
+number m.Lrc = 18
+number m.Sort = 19
+number m.Prod = 20
+number m.Start = 21
+number m.Session = 22
+number m.Inh = 23
+number m.Syn = 24
+number m.Local = 25
+number m.Attach = 26
+number m.Text = 27
+number m.On = 28
+number m.Put = 29
+number m.Copy = 30
+number m.Show = 31
+number m.Forget = 32
+number m.If = 33
+number m.Then = 34
+number m.Else = 35
+number m.True = 36
+number m.False = 37
+number m.Int = 38
+number m.Bool = 39
+number m.Name = 40
 
 abbrev pub word_kind : ℕ
 word_kind = 0
@@ -132,11 +134,15 @@ word_kind = 0
 abbrev pub natural_kind : ℕ
 natural_kind = 1
 
+abbrev pub path_kind : ℕ
+path_kind = 2
+
 -- what a grammar tells lexemes by
 abbrev pub kind : Lexeme → ℕ
 kind (l.Word name) = word_kind
 kind (l.Natural value) = natural_kind
-kind l.Other = 2
+kind (l.Path path) = path_kind
+kind l.Other = 3
 kind (l.Mark m) = number m
 
 -- the name that a word is
@@ -148,3 +154,8 @@ word_of _ = None
 abbrev pub natural_of : Lexeme → Option ℤ
 natural_of (l.Natural value) = Some value
 natural_of _ = None
+
+-- the place that a path names
+abbrev pub path_of : Lexeme → Option Path
+path_of (l.Path path) = Some path
+path_of _ = None

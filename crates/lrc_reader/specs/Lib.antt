@@ -1,3 +1,4 @@
+pub mod Place
 pub mod Lexeme
 pub mod Grammar
 pub mod Reading

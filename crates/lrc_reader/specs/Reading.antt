@@ -13,14 +13,16 @@ use Rattle.lrc_base.specs.declared.raw.RawProd.{RawProd}
 use Rattle.lrc_base.specs.declared.raw.RawTerm.{RawTerm}
 use Rattle.lrc_base.specs.declared.raw.RawTerm.TheVariants as t
 use Rattle.lrc_base.specs.declared.raw.RawGrammar.{RawGrammar}
+use Rattle.lrc_base.specs.declared.job.Path.{Path}
+use Rattle.lrc_base.specs.declared.job.RawEdit.{RawEdit}
 use Rattle.lrc_base.specs.declared.job.RawScript.{RawScript}
 use Rattle.lrc_base.specs.declared.job.Job.{Job}
 use Rattle.lrc_parse.specs.Reading.{Reading, Cause, nested, limit, took, on_took, read_one, read_fixed, read_either, read_optional, read_nothing, read_within, read_loop, read_many, read_most, read_others, read_others_most}
 use Rattle.lrc_reader.specs.declared.lexeme.Lexeme.{Lexeme}
 use Rattle.lrc_reader.specs.declared.lexeme.Mark.{Mark}
 use Rattle.lrc_reader.specs.declared.lexeme.Mark.TheVariants as m
-use Rattle.lrc_reader.specs.Lexeme.{kind, number, word_kind, natural_kind, word_of, natural_of}
-use Rattle.lrc_reader.specs.Grammar.{Name, attr_of, sort_of, kid_of, reference, Counted, node_limit, atom_alone, sum_and, sum_of, prod_of, one_of, grammar_of, script_of, job_of}
+use Rattle.lrc_reader.specs.Lexeme.{kind, number, word_kind, natural_kind, word_of, natural_of, path_of}
+use Rattle.lrc_reader.specs.Grammar.{Name, attr_of, sort_of, kid_of, reference, Counted, node_limit, atom_alone, sum_and, sum_of, prod_of, one_of, grammar_of, put_of, script_of, job_of}
 
 abbrev pub Reader : Type 0 → Type 0
 Reader A = List Lexeme → Reading Lexeme A
@@ -45,6 +47,9 @@ read_word = read_one word_of
 unfoldable pub read_number : Reader ℤ
 read_number = read_one natural_of
 
+unfoldable pub read_path : Reader Path
+read_path = read_one path_of
+
 -- the limits by number
 abbrev pub attributes_limit : Cause
 attributes_limit = limit 1
@@ -57,6 +62,9 @@ children_limit = limit 3
 
 abbrev pub nodes_limit : Cause
 nodes_limit = limit 5
+
+abbrev pub edits_limit : Cause
+edits_limit = limit 7
 
 abbrev pub words : List ℕ
 words = word_kind ∷ []
@@ -284,7 +292,7 @@ unfoldable pub read_term : ℕ → Reader RawTerm
 read_term zero = read_nothing kind values nested
 read_term (suc levels) = read_term_over (read_term levels)
 
--- ---- the header, the grammar and its session
+-- ---- the header and the grammar
 
 unfoldable pub read_one_number : Reader (Unit {0})
 read_one_number = read_one one_of
@@ -303,14 +311,35 @@ read_grammar = do
   start ← read_start
   pure (grammar_of sort prods start)
 
+-- ---- the session and the whole
+
+unfoldable pub read_edit : Reader RawEdit
+read_edit = do
+  pass m.Put
+  path ← read_path
+  tree ← read_term 1000
+  pass m.Semicolon
+  pure (put_of path tree)
+
+-- one edit more behind these, within the limit
+unfoldable pub read_another_edit : List RawEdit → Reader (List RawEdit)
+read_another_edit xs = read_within kind (nat_lt (length xs) 10000) (only m.Put) edits_limit (do
+  x ← read_edit
+  pure (xs ++ x ∷ []))
+
+-- edits behind these
+unfoldable pub read_edits : List RawEdit → Reader (List RawEdit)
+read_edits = read_most kind 10000 (only m.Put) edits_limit read_edit
+
 unfoldable pub read_session : Reader RawScript
 read_session = do
   pass m.Session
   pass m.On
   tree ← read_term 1000
   pass m.LeftBrace
+  edits ← read_edits []
   pass m.RightBrace
-  pure (script_of tree)
+  pure (script_of tree edits)
 
 unfoldable pub read_all : Reader Job
 read_all = do

@@ -11,8 +11,9 @@ ghost use Rattle.lrc_reader.specs.Gives.{Gives};
 
 use crate::fault::JobFault;
 use crate::lexeme::{Lexeme, Mark, NATURAL_KIND, WORD_KIND, kind_of, lexeme_of, number_of};
-use lrc_base::NameText;
+use lrc_base::{NameText, Path};
 use lrc_lex::Token;
+use std::alloc::Global;
 use std::marker::Model;
 
 /// The tokens that are left of a text.
@@ -46,7 +47,7 @@ impl<'a> Cursor<'a> {
     }
 
     /// The next lexeme, which stays; None at the end.
-    pub fn peek(&self) -> Option<Lexeme>
+    pub fn peek(&self) -> Option<Lexeme<'a>>
         ensures { result ≡ slice_get self.now 0 }
     {
         let token = self.tokens.first()?;
@@ -68,7 +69,7 @@ impl<'a> Cursor<'a> {
         ensures { result ≡ starts kind (wanted ∷ []) self.now }
     {
         match self.peek() {
-            Some(lexeme) => wanted == kind_of(lexeme),
+            Some(lexeme) => wanted == kind_of(&lexeme),
             None => false,
         }
     }
@@ -142,6 +143,19 @@ impl<'a> Cursor<'a> {
         };
         self.advance();
         Ok(value)
+    }
+
+    /// Goes past a path, and answers the place that it names.
+    #[tactic(auto, unfolding(crate::specs::Reading::read_path), using(crate::proofs::Next::one_took, crate::proofs::Next::one_end, crate::proofs::Next::one_other))]
+    pub fn path(&mut self, alloc: Global) -> Result<Path, JobFault>
+        ensures { Gives result self.new (reading.read_path self.old) }
+    {
+        let Some(Lexeme::Path(text)) = self.peek() else {
+            return Err(JobFault::NotBuilt);
+        };
+        let path = text.path(alloc)?;
+        self.advance();
+        Ok(path)
     }
 
     /// Goes past a natural of value 1.

@@ -16,29 +16,10 @@ use crate::cursor::Cursor;
 use crate::declare::{grammar, only};
 use crate::fault::JobFault;
 use crate::lexeme::Mark;
-use crate::term::term;
-use lrc_base::{Job, List, RawScript};
+use crate::session::session;
+use lrc_base::{Job, List};
 use lrc_lex::{LexFault, TEXT_LIMIT, Token, tokens};
 use std::alloc::Global;
-
-/// How many terms may stand within one another.
-pub const TERM_LEVELS: usize = 1000;
-
-/// A session without edits.
-#[tactic(auto, unfolding(crate::specs::Reading::read_session))]
-fn session(alloc: Global, cursor: &mut Cursor<'_>) -> Result<RawScript, JobFault>
-    ensures { Gives result cursor.new (reading.read_session cursor.old) }
-{
-    cursor.expect(Mark::Session)?;
-    cursor.expect(Mark::On)?;
-    let tree = term(alloc, cursor, TERM_LEVELS)?;
-    cursor.expect(Mark::LeftBrace)?;
-    cursor.expect(Mark::RightBrace)?;
-    Ok(RawScript {
-        tree,
-        edits: List::new(alloc),
-    })
-}
 
 /// The header, a grammar and a session.
 #[tactic(auto, unfolding(crate::specs::Reading::read_all))]

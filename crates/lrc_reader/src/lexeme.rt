@@ -6,6 +6,7 @@ ghost use Rattle.lrc_lex.specs.Longest.{IsTokenOf};
 ghost use Rattle.lrc_reader.specs.Grammar as grammar;
 ghost use Rattle.lrc_reader.specs.Lexeme as spec;
 
+use crate::path_text::PathText;
 use lrc_base::NameText;
 use lrc_lex::{Token, TokenClass, natural};
 
@@ -93,13 +94,15 @@ pub const MARKS: [(&[u8], Mark); 37] = [
 ];
 
 /// What the reader sees of a token.
-#[derive(Debug, Clone, Copy)]
-pub enum Lexeme {
+#[derive(Debug, Drop)]
+pub enum Lexeme<'a> {
     Mark(Mark),
     /// A word that is not reserved.
     Word(NameText),
     /// A natural by its value.
     Natural(i64),
+    /// A path by its text.
+    Path(PathText<'a>),
     /// A token of a class that no job of this form has.
     Other,
 }
@@ -126,7 +129,7 @@ pub fn mark_of(spelling: &[u8]) -> Option<Mark>
 }
 
 /// A word by its spelling, reserved or not.
-fn word(spelling: &[u8]) -> Lexeme
+fn word(spelling: &[u8]) -> Lexeme<'_>
     requires { IsName spelling.now }
     ensures { result ≡ spec.word_or spelling.now (spec.mark_of spelling.now) }
 {
@@ -141,7 +144,7 @@ fn word(spelling: &[u8]) -> Lexeme
 
 #[tactic(auto, unfolding(crate::specs::Lexeme::seen))]
 /// What the reader sees of a token of this text.
-pub fn lexeme_of(text: &[u8], token: Token) -> Lexeme
+pub fn lexeme_of(text: &[u8], token: Token) -> Lexeme<'_>
     requires { IsTokenOf text.now token }
     ensures { result ≡ spec.lexeme_of text.now token }
 {
@@ -153,9 +156,8 @@ pub fn lexeme_of(text: &[u8], token: Token) -> Lexeme
             Some(mark) => Lexeme::Mark(mark),
             None => Lexeme::Other,
         },
-        TokenClass::Negative | TokenClass::NameLit | TokenClass::Text | TokenClass::Path => {
-            Lexeme::Other
-        }
+        TokenClass::Path => Lexeme::Path(PathText::of(spelling)),
+        TokenClass::Negative | TokenClass::NameLit | TokenClass::Text => Lexeme::Other,
     }
 }
 
@@ -165,26 +167,33 @@ pub const WORD_KIND: u8 = 0;
 /// The kind of every natural.
 pub const NATURAL_KIND: u8 = 1;
 
-/// The number of a mark, from 3 on.
+/// The kind of every path.
+pub const PATH_KIND: u8 = 2;
+
+/// The kind of what no job of this form has.
+pub const OTHER_KIND: u8 = 3;
+
+/// The number of a mark, from 4 on.
 pub fn number_of(mark: Mark) -> u8
     ensures { result ≡ spec.number mark }
 {
-    mark as u8 + 3
+    mark as u8 + 4
 }
 
 /// What a grammar tells lexemes by.
-pub fn kind_of(lexeme: Lexeme) -> u8
-    ensures { result ≡ spec.kind lexeme }
+pub fn kind_of(lexeme: &Lexeme<'_>) -> u8
+    ensures { result ≡ spec.kind lexeme.now }
 {
     match lexeme {
         Lexeme::Word(_) => WORD_KIND,
         Lexeme::Natural(_) => NATURAL_KIND,
-        Lexeme::Other => 2,
-        Lexeme::Mark(mark) => number_of(mark),
+        Lexeme::Path(_) => PATH_KIND,
+        Lexeme::Other => OTHER_KIND,
+        Lexeme::Mark(mark) => number_of(*mark),
     }
 }
 
-impl Lexeme {
+impl Lexeme<'_> {
     /// The name that a word is.
     pub fn name(&self) -> Option<NameText>
         ensures { result ≡ spec.word_of self.now }

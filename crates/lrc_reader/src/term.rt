@@ -9,6 +9,9 @@ use crate::lexeme::Mark;
 use lrc_base::{List, RawTerm};
 use std::alloc::Global;
 
+/// How many terms may stand within one another.
+pub const TERM_LEVELS: usize = 1000;
+
 /// A literal.
 #[tactic(auto, unfolding(crate::specs::Reading::read_leaf))]
 fn leaf(cursor: &mut Cursor<'_>) -> Result<RawTerm, JobFault>

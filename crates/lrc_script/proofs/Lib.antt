@@ -1,3 +1,4 @@
 pub mod FitLemmas
 pub mod StepLemmas
 pub mod RunLemmas
+pub mod OneLemmas

@@ -1,11 +1,12 @@
 -- What the replies of a session are, and which of its edits are answered.
-use Rattle.std.specs.Prelude.{ℕ, Bool, false, List, map, option_map}
+use Rattle.std.specs.Prelude.{◌≡◌, ℕ, Bool, false, IsTrue, List, map, Option, option_map}
 use Rattle.std.specs.List.{list_all}
 use Rattle.lrc_base.specs.declared.grammar.Production.{Production}
 use Rattle.lrc_base.specs.declared.job.Edit.{Edit}
 use Rattle.lrc_base.specs.declared.job.Edit.TheVariants as edit
 use Rattle.lrc_meaning.specs.Tree.{Tree, int, tree, fits}
-use Rattle.lrc_meaning.specs.Grammar.{Grammar}
+use Rattle.lrc_meaning.specs.Grammar.{Grammar, is_well_formed}
+use Rattle.lrc_meaning.specs.Plain.{is_plain}
 use Rattle.lrc_meaning.specs.Editing as meaning
 use Rattle.lrc_meaning.specs.Editing.{Change, change, Attempted, EditStep, ReplyRun, never_full}
 use Rattle.lrc_script.specs.declared.reply.Reply.{Reply}
@@ -45,3 +46,9 @@ IsAnswered g limit before c reply after =
 abbrev pub IsSessionOf : Grammar → ℕ → Tree → List Edit → Replies → Type 0
 IsSessionOf g limit opening edits all =
     (text_of : Tree → List ℕ) → ReplyRun g limit text_of never_full opening (map change edits) (map reply_of all.replies) (option_map tree all.last)
+
+-- over a well-formed plain grammar the replies of a session and its last tree are fixed by its tree and its changes
+abbrev pub SessionsAreUnique : Type 0
+SessionsAreUnique =
+    (g : Grammar) (limit : ℕ) (text_of : Tree → List ℕ) (opening : Tree) (changes : List Change) (rs qs : List meaning.Reply) (last end : Option Tree) →
+    IsTrue (is_well_formed g) → IsTrue (is_plain g) → ReplyRun g limit text_of never_full opening changes rs last → ReplyRun g limit text_of never_full opening changes qs end → (rs ≡ qs) × (last ≡ end)

@@ -2,10 +2,12 @@
 #![tactic(auto)]
 
 mod attempt;
+mod laws;
 mod reply;
 mod session;
 #[cfg(test)]
 mod tests;
 
+pub use laws::one_session;
 pub use reply::{Replies, Reply};
 pub use session::replies;

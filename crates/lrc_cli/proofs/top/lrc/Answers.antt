@@ -1,17 +1,17 @@
-use Rattle.std.proofs.Common.{inl, inr, refl, sym, ◌∙◌, ap, subst, Err, ◌≡◌, ◌⊎◌, ℕ}
-use Rattle.lrc_cli.specs.Faults.{line_of}
+use Rattle.std.proofs.Common.{refl, sym, ◌∙◌, ap, subst, Err, ◌≡◌, ◌⊎◌, ℕ}
+use Rattle.lrc_cli.specs.Faults.{line_of, IsStatus}
 use Rattle.lrc_cli.specs.declared.failure.Failure.{Failure}
 use Rattle.lrc_cli.specs.declared.failure.Failure.TheVariants.{Write}
 use Rattle.lrc_cli.specs.Line.{GainsLine}
 use Rattle.lrc_cli.proofs.FaultLemmas.{fault_of}
-use Rattle.lrc_cli.proofs.StatusLemmas.{done_or_memory, not_refused}
+use Rattle.lrc_cli.proofs.StatusLemmas.{done_or_memory, not_refused, is_failure, known_status}
 use Rattle.lrc_cli.proofs.top.lrc.Goals as goal
 
 pub returns-in-Ok-clause-statuses : goal.returns-in-Ok-clause-statuses
-returns-in-Ok-clause-statuses g c = inl refl
+returns-in-Ok-clause-statuses g c = known_status _ refl
 
 pub returns-in-Err-clause-statuses : goal.returns-in-Err-clause-statuses
-returns-in-Err-clause-statuses g c = inr (c.in-Err.failure, c.status.ensures)
+returns-in-Err-clause-statuses g c = subst IsStatus (sym c.status.ensures) (is_failure c.in-Err.failure)
 
 pub returns-in-Err-clause-part : goal.returns-in-Err-clause-part
 returns-in-Err-clause-part g c = λ e. c.in-Err.ensures.part (let same = fault_of c.in-Err.failure Write (sym c.status.ensures ∙ e) in cc)

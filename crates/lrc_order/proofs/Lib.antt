@@ -1,0 +1,6 @@
+pub mod LeastLemmas
+pub mod SetLemmas
+pub mod DeclarationsLemmas
+pub mod CrossingLemmas
+pub mod TransitiveLemmas
+pub mod GreatestLemmas

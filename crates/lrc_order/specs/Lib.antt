@@ -1,0 +1,7 @@
+pub mod Needs
+pub mod Induced
+pub mod Sets
+pub mod Extended
+pub mod Ordered
+pub mod Examples
+pub mod Laws

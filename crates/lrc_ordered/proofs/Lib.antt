@@ -1,0 +1,12 @@
+pub mod PlaceLemmas
+pub mod NeedLemmas
+pub mod GatherLemmas
+pub mod SpreadLemmas
+pub mod MissingLemmas
+pub mod SettleLemmas
+pub mod RangeLemmas
+pub mod SetupLemmas
+pub mod BridgeLemmas
+pub mod CycleLemmas
+pub mod TurnLemmas
+pub mod NumberedLemmas

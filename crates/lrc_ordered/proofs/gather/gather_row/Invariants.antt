@@ -1,0 +1,7 @@
+use Rattle.std.proofs.Common.{◌≡◌, ◌<◌}
+use Rattle.lrc_ordered.specs.Tables.{Gathered, JoinedAt}
+use Rattle.lrc_ordered.proofs.gather.gather_row.Given as goal
+
+abbrev pub invariant-attributes : goal.invariant-attributes
+invariant-attributes l =
+    Gathered l.initial.sort l.sort l.found (λ x y. (y < l.then) × (x ≡ l.first) × JoinedAt l.initial.sort.points l.relation l.start x y)

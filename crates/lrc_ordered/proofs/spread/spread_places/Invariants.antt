@@ -1,0 +1,6 @@
+use Rattle.std.proofs.Common.{take}
+use Rattle.lrc_ordered.specs.Tables.{Closed, HandedAmong}
+use Rattle.lrc_ordered.proofs.spread.spread_places.Given as goal
+
+abbrev pub invariant-places : goal.invariant-places
+invariant-places l = Closed l.initial.relation l.relation (HandedAmong l.sorts (take l.place-index l.places))

@@ -1,0 +1,8 @@
+pub mod Tables
+pub mod Missing
+pub mod Setup
+pub mod Cycles
+pub mod Faults
+pub mod Examples
+pub mod Turns
+pub mod Numbered

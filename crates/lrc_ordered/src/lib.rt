@@ -1,0 +1,18 @@
+//! The ordered test, after Kastens, Ordered Attributed Grammars (1980).
+#![tactic(auto)]
+
+mod cycles;
+mod faults;
+mod gather;
+mod induce;
+mod needs;
+mod places;
+mod settle;
+mod setup;
+mod spread;
+#[cfg(test)]
+mod tests;
+mod turns;
+
+pub use faults::OrderFault;
+pub use induce::{Tables, acyclic_induced};

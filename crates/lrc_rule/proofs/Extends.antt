@@ -1,0 +1,124 @@
+-- A store into a row that is not published, and a row that is published, keep what is true of a table.
+use Rattle.std.proofs.Common.{◌≡◌, ◌≢◌, ◌⊎◌, inl, inr, ℕ, suc, ◌<◌, ◌≤◌, List, set, sym, ◌∙◌, ap, subst, arith, length-set, get_or-set_same, get_or-set_other}
+use mathlib.Core.Logic.{dite}
+use native.Mathlib.Decide.{ℕ_discrete}
+use Rattle.lrc_store.specs.Cells.{CellTree}
+use Rattle.lrc_rule.specs.declared.layout.Content.{Content}
+use Rattle.lrc_rule.specs.declared.layout.Layout.{Layout}
+use Rattle.lrc_rule.specs.Layout.{part_at, memo_at}
+use Rattle.lrc_rule.specs.Rows.{bucket, part, content, Names, IsPublished, depth, Stands, Fits, IsPassed, IsTable, Grows}
+use Rattle.lrc_rule.specs.Home.{place_on}
+use Rattle.lrc_rule.proofs.Growth.{content_is, content-grown, Stands-grown, Fits-grown, IsPassed-grown}
+use Rattle.lrc_rule.proofs.Unique.{Stands-from_row}
+
+-- two parts of rows at one word are one
+pub same_part : (l : Layout) (row k other j : ℕ) → k < 4 → j < 4 → part_at l row k ≡ part_at l other j → (row ≡ other) × (k ≡ j)
+same_part l row k other j small less e = (omega (arith, e), omega (arith, e))
+
+-- ---- a store into a row that is not published
+
+module _ (l : Layout) (words : List ℕ) (t : IsTable l words) (row k value : ℕ) (small : k < 4) (there : row < l.rows) (unpublished : ¬ IsPublished l words row) where
+  abbrev stored_words : List ℕ
+  stored_words = set words (part_at l row k) value
+
+  pub store-part_same : part l stored_words row k ≡ value
+  store-part_same = get_or-set_same words (part_at l row k) value 0 (let w = t.whole in omega (arith, w))
+
+  pub store-part_other : (other j : ℕ) → j < 4 → (row ≡ other → k ≡ j → ⊥) → part l stored_words other j ≡ part l words other j
+  store-part_other other j less differ = get_or-set_other words (part_at l row k) (part_at l other j) value 0 (λ e. let s = same_part l row k other j small less (sym e) in differ s.0 s.1)
+
+  store-bucket : (place : ℕ) → place < l.buckets → bucket l stored_words place ≡ bucket l words place
+  store-bucket place less = get_or-set_other words (part_at l row k) place value 0 (λ e. omega (arith, e))
+
+  pub store-published : (other : ℕ) → IsPublished l stored_words other → IsPublished l words other
+  store-published other h = (h.0, (h.1.0, sym (store-bucket h.0 h.1.0) ∙ h.1.1))
+
+  pub store-grows : Grows l words stored_words
+  store-grows = record {
+    buckets = λ place other h. (h.0, store-bucket place h.0 ∙ h.1);
+    parts = λ other j h less. store-part_other other j less (λ e _. unpublished (subst (IsPublished l words) (sym e) h));
+  }
+
+  pub store-table : IsTable l stored_words
+  store-table = record {
+    whole = length-set words (part_at l row k) value ∙ t.whole;
+    within = λ place less. subst (λ n. n ≤ l.rows) (sym (store-bucket place less)) (t.within place less);
+    once = λ one other named h g. t.once one other named (h.0, sym (store-bucket one h.0) ∙ h.1) (g.0, sym (store-bucket other g.0) ∙ g.1);
+    standing = λ other h. let s = t.standing other (store-published other h) in (s.0, Stands-grown l words stored_words store-grows s.0 (suc other) s.1);
+    reached = λ place other h.
+        let g : Names l words place other = (h.0, sym (store-bucket place h.0) ∙ h.1) in
+        let r = t.reached place other g in
+        subst (λ c. (steps : ℕ) × (steps < l.buckets) × (place ≡ place_on l c steps) × IsPassed l stored_words c steps) (sym (content-grown l words stored_words store-grows other (place, g)))
+        (r.0, r.1, r.2, IsPassed-grown l words stored_words store-grows _ r.0 r.3);
+    unused = λ place less. get_or-set_other words (part_at l row k) (memo_at l place) value 0 (λ e. omega (arith, e)) ∙ t.unused place less;
+  }
+
+-- ---- a row that is published
+
+module _ (l : Layout) (words : List ℕ) (t : IsTable l words) (row steps : ℕ) (cell : CellTree) (c : Content) (is : content l words row ≡ c) (there : row < l.rows) (unpublished : ¬ IsPublished l words row)
+    (few : steps < l.buckets) (empty : bucket l words (place_on l c steps) ≡ 0) (passed : IsPassed l words c steps)
+    (fits : Fits l words cell c) (deep : part l words row 3 ≡ depth cell) (inside : place_on l c steps < l.buckets) where
+  abbrev published_words : List ℕ
+  published_words = set words (place_on l c steps) (suc row)
+
+  pub publish-part : (other k : ℕ) → part l published_words other k ≡ part l words other k
+  publish-part other k = get_or-set_other words (place_on l c steps) (part_at l other k) (suc row) 0 (λ e. omega (arith, e, inside))
+
+  content_stays : (other : ℕ) → content l published_words other ≡ content l words other
+  content_stays other = content_is l words published_words other other (publish-part other 0) (publish-part other 1) (publish-part other 2)
+
+  bucket_new : bucket l published_words (place_on l c steps) ≡ suc row
+  bucket_new = get_or-set_same words (place_on l c steps) (suc row) 0 (let w = t.whole in omega (arith, w, inside))
+
+  bucket_other : (place : ℕ) → place ≢ place_on l c steps → bucket l published_words place ≡ bucket l words place
+  bucket_other place n = get_or-set_other words (place_on l c steps) place (suc row) 0 n
+
+  named_before : (place other : ℕ) → Names l published_words place other → ((place ≡ place_on l c steps) × (other ≡ row)) ⊎ Names l words place other
+  named_before place other h = dite (ℕ_discrete place (place_on l c steps))
+      (λ e. let f : suc other ≡ suc row = sym h.1 ∙ (ap (bucket l published_words) e ∙ bucket_new) in inl (e, omega (arith, f)))
+      (λ n. inr (h.0, sym (bucket_other place n) ∙ h.1))
+
+  pub publish-grows : Grows l words published_words
+  publish-grows = record {
+    buckets = λ place other h. (h.0, bucket_other place (λ e. let f : suc other ≡ 0 = sym h.1 ∙ (ap (bucket l words) e ∙ empty) in omega (arith, f)) ∙ h.1);
+    parts = λ other k h less. publish-part other k;
+  }
+
+  pub publish-published : (other : ℕ) → IsPublished l published_words other → (other ≡ row) ⊎ IsPublished l words other
+  publish-published other h = elim (named_before h.0 other h.1) [ inl e ↦ inl e.1 | inr g ↦ inr (h.0, g) ]
+
+  pub publish-named : Names l published_words (place_on l c steps) row
+  publish-named = (inside, bucket_new)
+
+  pub publish-stands : Stands l published_words cell (suc row)
+  publish-stands = Stands-from_row l published_words cell row (place_on l c steps, publish-named)
+      (subst (Fits l published_words cell) (sym (content_stays row ∙ is)) (Fits-grown l words published_words publish-grows cell _ fits)) (publish-part row 3 ∙ deep)
+
+  pub publish-table : IsTable l published_words
+  publish-table = record {
+    whole = length-set words (place_on l c steps) (suc row) ∙ t.whole;
+    within = λ place less. dite (ℕ_discrete place (place_on l c steps))
+        (λ e. subst (λ n. n ≤ l.rows) (sym (ap (bucket l published_words) e ∙ bucket_new)) there)
+        (λ n. subst (λ m. m ≤ l.rows) (sym (bucket_other place n)) (t.within place less));
+    once = λ one other named h g. elim (named_before one named h) [
+      | inl a ↦ elim (named_before other named g) [
+        | inl b ↦ a.0 ∙ sym b.0
+        | inr b ↦ absurd (unpublished (subst (IsPublished l words) a.1 (other, b)))
+      ]
+      | inr a ↦ elim (named_before other named g) [
+        | inl b ↦ absurd (unpublished (subst (IsPublished l words) b.1 (one, a)))
+        | inr b ↦ t.once one other named a b
+      ]
+    ];
+    standing = λ other h. elim (publish-published other h) [
+      | inl e ↦ (cell, subst (λ r. Stands l published_words cell (suc r)) (sym e) publish-stands)
+      | inr g ↦ let s = t.standing other g in (s.0, Stands-grown l words published_words publish-grows s.0 (suc other) s.1)
+    ];
+    reached = λ place other h.
+        subst (λ d. (j : ℕ) × (j < l.buckets) × (place ≡ place_on l d j) × IsPassed l published_words d j) (sym (content_stays other)) (elim (named_before place other h) [
+          | inl e ↦ subst (λ d. (j : ℕ) × (j < l.buckets) × (place ≡ place_on l d j) × IsPassed l published_words d j) (sym (ap (content l words) e.1 ∙ is))
+              (steps, few, e.0, IsPassed-grown l words published_words publish-grows _ steps passed)
+          | inr g ↦ let r = t.reached place other g in (r.0, r.1, r.2, IsPassed-grown l words published_words publish-grows _ r.0 r.3)
+        ]);
+    unused = λ place less. get_or-set_other words (place_on l c steps) (memo_at l place) (suc row) 0 (λ e. omega (arith, e, inside)) ∙ t.unused place less;
+  }

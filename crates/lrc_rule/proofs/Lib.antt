@@ -1,0 +1,5 @@
+pub mod Growth
+pub mod Unique
+pub mod Counts
+pub mod Extends
+pub mod Keeping

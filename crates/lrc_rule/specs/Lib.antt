@@ -1,0 +1,5 @@
+pub mod Layout
+pub mod Home
+pub mod Rows
+pub mod Views
+pub mod Steps

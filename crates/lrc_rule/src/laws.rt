@@ -1,0 +1,66 @@
+//! What follows from the rule. The functions here do nothing; each carries a law as its contract.
+ghost use Rattle.std.specs.Prelude.{◌≡◌, ℕ, suc, ◌+◌, ◌<◌, ◌≤◌, ◌==◌, true, List, [], length, replicate};
+ghost use mathlib.Core.Option.{none};
+ghost use prog.Atomic.{either};
+ghost use Rattle.atomic_table.specs.Table.{Me, Allows, Splits, Joins, step, opening};
+ghost use Rattle.lrc_store.specs.Cells.{CellTree};
+ghost use Rattle.lrc_rule.specs.declared.layout.Layout.{Layout};
+ghost use Rattle.lrc_rule.specs.declared.layout.Content.{Content};
+ghost use Rattle.lrc_rule.specs.Layout.{word_count, part_at};
+ghost use Rattle.lrc_rule.specs.Home.{place_on};
+ghost use Rattle.lrc_rule.specs.Rows.{IsTable, Stands, Grows, Fits, IsPassed, IsAbsent, IsPublished, bucket, content, depth};
+ghost use Rattle.lrc_rule.specs.Views.{View, Rule, now, next, opening_view, spent};
+ghost use Rattle.lrc_rule.specs.Steps.{IsCurrent, IsDraftOf, loaded, sought, stored, exchanged, left_of, right_of, both};
+
+/// Published rows with equal contents are one row, and so a cell has one handle.
+pub fn equal_rows_are_one()
+    ensures rows { (l : Layout) (words : List ℕ) → IsTable l words → (row other : ℕ) → IsPublished l words row → IsPublished l words other → content l words row ≡ content l words other → row ≡ other }
+    ensures handles { (l : Layout) (words : List ℕ) → IsTable l words → (cell : CellTree) (one other : ℕ) → Stands l words cell one → Stands l words cell other → one ≡ other }
+    ensures cells { (l : Layout) (words : List ℕ) (cell other : CellTree) (handle : ℕ) → Stands l words cell handle → Stands l words other handle → cell ≡ other }
+{}
+
+/// What a handle stands for stays while the words grow.
+pub fn published_rows_stand()
+    ensures { (l : Layout) (before after : List ℕ) → Grows l before after → (cell : CellTree) (handle : ℕ) → Stands l before cell handle → Stands l after cell handle }
+{}
+
+/// A probe passes at most as many places as there are rows, of which there are fewer than buckets;
+/// where it comes to an empty bucket, its cell is absent.
+pub fn a_probe_ends()
+    ensures ends { (l : Layout) (words : List ℕ) → IsTable l words → (c : Content) (steps : ℕ) → steps ≤ l.buckets → IsPassed l words c steps → steps ≤ l.rows }
+    ensures absent { (l : Layout) (words : List ℕ) → IsTable l words → (cell : CellTree) (c : Content) (steps : ℕ) → Fits l words cell c → IsPassed l words c steps → bucket l words (place_on l c steps) ≡ 0 → IsAbsent l words cell }
+{}
+
+/// No cell in a table is deeper than there are rows.
+pub fn depths_are_bounded()
+    ensures { (l : Layout) (words : List ℕ) → IsTable l words → (cell : CellTree) (handle : ℕ) → Stands l words cell handle → depth cell ≤ l.rows }
+{}
+
+/// The rule is true of a new table, all of whose words are 0.
+pub fn a_new_table_meets_the_rule()
+    ensures { (l : Layout) → Rule l (opening {S = Unit {0}} (replicate (word_count l) 0) [] (opening_view l)) }
+{}
+
+/// A load of any word keeps the rule, also where a cell is sought and noted as absent.
+pub fn loads_keep_the_rule()
+    ensures load { (l : Layout) (slots id : ℕ) (me : Me (Unit {0}) View) (word : ℕ) → me.0.live ≡ true → Allows (Rule l) slots id me word (λ n. n) (loaded (step slots word 0 0 none) me) }
+    ensures seek { (l : Layout) (slots id : ℕ) (me : Me (Unit {0}) View) (word : ℕ) (cell : CellTree) (c : Content) (steps : ℕ) → IsCurrent me.0 → word ≡ place_on me.0.layout c steps → Fits me.0.layout (now me.0) cell c
+        → IsPassed me.0.layout (now me.0) c steps → Allows (Rule l) slots id me word (λ n. n) (sought cell (step slots word 0 0 none) me) }
+{}
+
+/// A pass may store the next word of its draft, and then publish the whole draft where the places
+/// before are passed.
+pub fn publishing_keeps_the_rule()
+    ensures draft { (l : Layout) (slots id : ℕ) (me : Me (Unit {0}) View) (word k value : ℕ) → IsCurrent me.0 → word ≡ part_at me.0.layout (next me.0) k → k < 4 → k ≤ length me.0.learned.draft → length me.0.owned.made < me.0.owned.quota
+        → Allows (Rule l) slots id me word (λ _. value) (λ _. stored (step slots word value 0 none) me value) }
+    ensures publish { (l : Layout) (slots id : ℕ) (me : Me (Unit {0}) View) (word new : ℕ) (cell : CellTree) (steps : ℕ) → IsCurrent me.0 → (d : IsDraftOf me.0.layout (now me.0) me.0.learned.draft cell)
+        → word ≡ place_on me.0.layout d.content steps → steps < me.0.layout.buckets → word < me.0.layout.buckets → IsPassed me.0.layout (now me.0) d.content steps → length me.0.owned.made < me.0.owned.quota → new ≡ suc (next me.0)
+        → Allows (Rule l) slots id me word (λ n. either (n == 0) new n) (exchanged (step slots word 0 new none) me) }
+{}
+
+/// A pass may be cut in two, with at most the rows that are not used for the second, and may take in
+/// another.
+pub fn splitting_and_meeting_keep_the_rule()
+    ensures split { (l : Layout) (id : ℕ) (v : View) (amount : ℕ) → v.live ≡ true → amount + length v.owned.made ≤ v.owned.quota → Splits {S = Unit {0}} (Rule l) id v (left_of amount v) (right_of amount v) }
+    ensures join { (l : Layout) (id : ℕ) (v : View) (other : ℕ) (w : View) → v.live ≡ true → w.live ≡ true → Joins {S = Unit {0}} (Rule l) id v other w (both v w) spent }
+{}

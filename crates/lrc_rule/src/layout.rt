@@ -1,0 +1,68 @@
+ghost use Rattle.std.specs.Prelude.{◌≡◌, ◌+◌, ◌*◌, ◌<◌, ◌≤◌, ◌^◌};
+ghost use Rattle.lrc_rule.specs.Layout.{IsLayout, word_count, bucket_at, part_at};
+
+/// How many words of each kind a table has.
+#[derive(Debug, Clone, Copy, PartialEq, Eq)]
+pub struct Layout {
+    /// The least power of two that is at least twice the rows.
+    pub buckets: u32,
+    pub rows: u32,
+    pub memo: u32,
+}
+
+/// The first three words of a row.
+#[derive(Debug, Clone, Copy, PartialEq, Eq)]
+pub struct Content {
+    /// The tag of a pair, or 0 for a number.
+    pub tag: u64,
+    /// The left handle, or the number's 64 bits.
+    pub left: u64,
+    /// The right handle, or 0.
+    pub right: u64,
+}
+
+impl Layout {
+    /// The layout of a table with this many rows and memo words, each from 1 to 16,777,216.
+    pub fn of(rows: u32, memo: u32) -> Layout
+        requires some_row { 1 ≤ rows }
+        requires rows { rows ≤ 2 ^ 24 }
+        requires some_memo { 1 ≤ memo }
+        requires memo { memo ≤ 2 ^ 24 }
+        ensures layout { IsLayout result }
+        ensures counts { (result.rows ≡ rows) × (result.memo ≡ memo) }
+    {
+        Layout {
+            buckets: (2 * rows).next_power_of_two(),
+            rows,
+            memo,
+        }
+    }
+
+    /// How many words there are.
+    pub fn size(self) -> usize
+        requires { IsLayout self }
+        ensures { result ≡ word_count self }
+    {
+        self.buckets as usize + 4 * self.rows as usize + self.memo as usize
+    }
+
+    /// Which word is the bucket at a place.
+    pub fn bucket(self, place: u32) -> usize
+        requires { place < self.buckets }
+        ensures index { result ≡ bucket_at self place }
+        ensures within { result < word_count self }
+    {
+        place as usize
+    }
+
+    /// Which word is a part of a row, from 0 to 3: its tag, its left word, its right word, its depth.
+    pub fn part(self, row: u32, part: usize) -> usize
+        requires layout { IsLayout self }
+        requires row { row < self.rows }
+        requires part { part < 4 }
+        ensures index { result ≡ part_at self row part }
+        ensures within { result < word_count self }
+    {
+        self.buckets as usize + (4 * row as usize + part)
+    }
+}

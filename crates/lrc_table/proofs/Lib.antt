@@ -1,0 +1,5 @@
+pub mod Opened
+pub mod Follow
+pub mod Probing
+pub mod Standings
+pub mod Stores

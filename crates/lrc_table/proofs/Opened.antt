@@ -1,0 +1,65 @@
+-- What callers see of a pass and a table, and what is inside.
+use Rattle.std.proofs.Common.{◌≡◌, ℕ, zero, suc, refl, ◌+◌, ◌^◌, ◌<◌, List, [], ◌∷◌, length, get_or, sym, ◌∙◌, ap, subst, arith, length-append}
+use Rattle.lrc_rule.specs.declared.layout.Layout.{Layout}
+use Rattle.lrc_rule.specs.Layout.{IsLayout, word_count}
+use Rattle.lrc_rule.specs.Rows.{IsTable}
+use Rattle.lrc_rule.specs.Views.{View, now}
+use Rattle.lrc_rule.specs.Steps.{Follows, IsMade, Publishes, Exchanges}
+use Rattle.lrc_table.specs.Passes.{TableView, PassView, IsOf, IsPass, IsReady}
+
+pub same_id : {M : Type 0} (a b : PassView) (s t : TableView M) → a ≡ b → s ≡ t → IsOf b t → a.table ≡ s.id
+same_id a b s t e f h = ap (λ (p : PassView). p.table) e ∙ (h.0 ∙ sym (ap (λ x. x.id) f))
+
+pub same_layout : {M : Type 0} (a b : PassView) (s t : TableView M) → a ≡ b → s ≡ t → IsOf b t → a.view.layout ≡ s.layout
+same_layout a b s t e f h = ap (λ (p : PassView). p.view.layout) e ∙ (h.1 ∙ sym (ap (λ x. x.layout) f))
+
+pub below : {M : Type 0} (s t : TableView M) (n word : ℕ) → n ≡ word_count s.layout → s ≡ t → word < word_count t.layout → word < n
+below s t n word e f h = let g = ap (λ x. word_count x.layout) f in omega (arith, e, g, h)
+
+pub some_word : (l : Layout) (n : ℕ) → n ≡ word_count l → IsLayout l → 0 < n
+some_word l n e h = let some = h.some_row in omega (arith, e, some)
+
+-- a pass stays a pass where a step made no row
+pub IsPass-follows : {S : Type 0} (v w : View) (carried held : List (ℕ × S)) (first quota count : ℕ) → IsPass v carried first quota count → Follows v w → w.owned.made ≡ v.owned.made → held ≡ carried
+    → IsPass w held first quota count
+IsPass-follows v w carried held first quota count h f made none = record {
+  current = f.current;
+  layout = subst IsLayout (sym f.layout) h.layout;
+  none = none ∙ h.none;
+  first_is = f.from ∙ h.first_is;
+  quota_is = f.quota ∙ h.quota_is;
+  count_is = ap length made ∙ h.count_is;
+}
+
+-- where the row was published there is one more
+pub IsPass-publishes : {S : Type 0} (v w : View) (carried held : List (ℕ × S)) (first quota count found word : ℕ) → IsPass v carried first quota count → Exchanges v w word found → found ≡ 0 → IsReady v word → held ≡ carried
+    → IsPass w held first quota (count + 1)
+IsPass-publishes v w carried held first quota count found word h x hit ready none =
+    let made : IsMade v w ready.cell = subst (Publishes v w word) hit x.publishes ready.cell ready.drafted in
+    let f = x.follows in record {
+      current = f.current;
+      layout = subst IsLayout (sym f.layout) h.layout;
+      none = none ∙ h.none;
+      first_is = f.from ∙ h.first_is;
+      quota_is = f.quota ∙ h.quota_is;
+      count_is = (let e = ap length made.made in let more = length-append v.owned.made (ready.cell ∷ []) in let was = h.count_is in omega (arith, e, more, was));
+    }
+
+pub IsPass-lost : {S : Type 0} (v w : View) (carried held : List (ℕ × S)) (first quota count found word : ℕ) → IsPass v carried first quota count → Exchanges v w word found → ¬ (found ≡ 0) → held ≡ carried
+    → IsPass w held first quota count
+IsPass-lost v w carried held first quota count found word h x miss none = IsPass-follows v w carried held first quota count h x.follows (kept found miss x.publishes) none
+  where
+    kept : (n : ℕ) → ¬ (n ≡ 0) → Publishes v w word n → w.owned.made ≡ v.owned.made
+    kept zero m p = absurd (m refl)
+    kept (suc n) m p = p.2
+
+-- a word of a bucket is at most the number of rows
+pub bucket-small : (l : Layout) (words : List ℕ) (place found : ℕ) → IsTable l words → IsLayout l → place < l.buckets → found ≡ get_or words place 0 → found < 2 ^ 32
+bucket-small l words place found t h inside e = let w = t.within place inside in let r = h.rows in omega (arith, w, r, e)
+
+pub exchanged-small : (v w : View) (place found : ℕ) → IsLayout v.layout → place < v.layout.buckets → Exchanges v w place found → found < 2 ^ 32
+exchanged-small v w place found h inside x = by_found found x.publishes
+  where
+    by_found : (n : ℕ) → Publishes v w place n → n < 2 ^ 32
+    by_found zero p = omega arith
+    by_found (suc n) p = bucket-small w.layout (now w) place (suc n) x.follows.current.table (subst IsLayout (sym x.follows.layout) h) (let e = ap (λ l. l.buckets) x.follows.layout in omega (arith, e, inside)) p.0

@@ -1,0 +1,51 @@
+-- What a pass stands for, as a store.
+use Rattle.std.specs.Prelude.{ℕ, zero, suc, ◌≡◌, Bool, false, cond, ◌||◌, nat_eq, List, [], ◌∷◌, ◌++◌, take, replicate, Option, Some, None, option_to_list, Result, OnErr}
+use Rattle.std.specs.Int.{cast_signed, w64}
+use Rattle.lrc_store.specs.Cells.{CellTree, nil, number, pair}
+use Rattle.lrc_store.specs.Standing.{Standing}
+use Rattle.lrc_store.specs.declared.cells.Handle.{Handle}
+use Rattle.lrc_store.specs.declared.stores.Full.{Full}
+use Rattle.lrc_rule.specs.declared.layout.Layout.{Layout}
+use Rattle.lrc_rule.specs.Rows.{content}
+use Rattle.lrc_rule.specs.Views.{View, now}
+
+-- the number is in the list
+abbrev pub is_in : ℕ → List ℕ → Bool
+is_in n [] = false
+is_in n (m ∷ rest) = nat_eq m n || is_in n rest
+
+-- the pair of two cells that there are
+abbrev pub paired : ℕ → Option CellTree → Option CellTree → Option CellTree
+paired tag None right = None
+paired tag (Some left) None = None
+paired tag (Some left) (Some right) = Some (pair tag left right)
+
+-- the cell that a handle stands for, if it is at most so deep
+unfoldable pub cell_at : Layout → List ℕ → ℕ → ℕ → Option CellTree
+cell_at l words fuel zero = Some nil
+cell_at l words zero (suc row) = None
+cell_at l words (suc fuel) (suc row) = let c = content l words row in
+    cond (is_in (suc row) (take l.buckets words))
+    (cond (nat_eq c.tag 0) (Some (number (cast_signed w64 c.left))) (paired c.tag (cell_at l words fuel c.left) (cell_at l words fuel c.right))) None
+
+-- the cells of the first rows
+abbrev pub cells_below : Layout → List ℕ → ℕ → List CellTree
+cells_below l words zero = []
+cells_below l words (suc row) = option_to_list (cell_at l words l.rows (suc row)) ++ cells_below l words row
+
+-- a pass knows the cells that were published at its last step; they are in the table for good
+abbrev pub standing : View → Standing
+standing v = record {
+  known = cell_at v.layout (now v) v.layout.rows;
+  made = v.owned.made;
+  drawn = None;
+  pooled = false;
+  quota = v.owned.quota;
+  memo = None;
+  seen = Some (cells_below v.layout (now v) v.layout.rows);
+  missed = 0;
+}
+
+-- the cell was noted as absent, and nothing else was
+abbrev pub IsNoted : View → View → CellTree → Result Handle Full → Type 0
+IsNoted v w cell answer = OnErr answer ((count : ℕ) × (w.learned.notes ≡ v.learned.notes ++ replicate (suc count) cell))
