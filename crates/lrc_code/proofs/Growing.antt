@@ -1,14 +1,14 @@
 -- Stores that grow, step by step.
-use Rattle.std.proofs.Common.{◌≡◌, ◌⊎◌, inl, inr, ℕ, ◌<◌, ℤ, List, [], ◌∷◌, ◌++◌, length, get_or, refl, sym, ◌∙◌, ap, subst, suc, zero, arith, length-append, append_assoc, Option, Some, None, IsSome, Contains}
+use Rattle.std.proofs.Common.{◌≡◌, ◌⊎◌, inl, inr, ℕ, ◌<◌, List, [], ◌∷◌, ◌++◌, length, get_or, refl, sym, ◌∙◌, ap, subst, suc, zero, arith, length-append, append_assoc, Option, Some, None, IsSome, Contains}
 use Rattle.std.proofs.lemmas.List.{append-nil}
 use Rattle.std.proofs.lemmas.Bool.{false≢true}
-use Rattle.std.specs.Prelude.{unwrap_or, Result, Ok, Err, OnErr, IsErr}
-use Rattle.lrc_store.specs.Cells.{CellTree, nil, number, pair, parts, IsWithin, HoldsParts}
+use Rattle.std.specs.Prelude.{unwrap_or, Result, Ok, Err, IsErr}
+use Rattle.lrc_store.specs.Cells.{CellTree, nil, pair, parts, IsWithin, HoldsParts}
 use Rattle.lrc_store.specs.Standing.{Standing, Stands, IsKnown, meant, Told}
-use Rattle.lrc_store.specs.Words.{Keeps, Grows, KeepsQuota, Draws, Adds, Puts, Reads, Tells, IsFullFor}
+use Rattle.lrc_store.specs.Words.{Keeps, Grows, KeepsQuota, Reads, Tells}
 use Rattle.lrc_store.specs.declared.cells.Handle.{Handle}
 use Rattle.lrc_store.specs.declared.stores.Full.{Full}
-use Rattle.lrc_code.specs.Building.{MakesParts, DrawsPart, AddsParts, Lacks, Builds}
+use Rattle.lrc_code.specs.Building.{DrawsPart, AddsParts, Builds}
 
 some-stands : (o : Option CellTree) → IsSome o → o ≡ Some (unwrap_or o nil)
 some-stands None h = cc
@@ -24,11 +24,7 @@ stands-known s handle c h = let P : Option CellTree → Type 0 = IsSome in subst
 pub stands-meant : (s : Standing) (handle : ℕ) (c : CellTree) → Stands s handle c → meant s handle ≡ c
 stands-meant s handle c h = ap (λ (o : Option CellTree). unwrap_or o nil) h
 
--- a known handle stays known
-pub kept-known : (s t : Standing) (handle : ℕ) → Keeps s t → IsKnown s handle → IsKnown t handle
-kept-known s t handle k h = stands-known t handle (meant s handle) (k handle (meant s handle) (known-stands s handle h))
-
--- and stands for the same cell
+-- a known handle stands for the same cell later
 pub kept-meant : (s t : Standing) (handle : ℕ) → Keeps s t → IsKnown s handle → meant t handle ≡ meant s handle
 kept-meant s t handle k h = stands-meant t handle (meant s handle) (k handle (meant s handle) (known-stands s handle h))
 
@@ -55,13 +51,6 @@ quota-same : (s : Standing) → KeepsQuota s s
 quota-same s = record { pooled = refl; at_most = omega arith; fixed = λ _. refl }
 
 -- reading a store and reading it again
-pub reads-same : (s : Standing) → Reads s s
-reads-same s = record {
-  stays = record { known = λ handle cell h. h; seen = grows-same s.seen; made = refl; drawn = refl; pooled = refl; quota = refl };
-  memo = refl;
-  missed = refl;
-}
-
 pub reads-then : (s t u : Standing) → Reads s t → Reads t u → Reads s u
 reads-then s t u a b = record {
   stays = record {
@@ -95,13 +84,7 @@ contains-either (x ∷ xs) ys c (suc i, h, e) = over (contains-either xs ys c (i
   over (inl (k, l, f)) = inl (suc k, omega (arith, l), f)
   over (inr g) = inr g
 
--- a pair has its own row, and the rows of its sides
-pub pair-own : (tag : ℕ) (left right : CellTree) → Contains (parts (pair tag left right)) (pair tag left right)
-pair-own tag left right = (0, omega arith, refl)
-
-pub number-own : (n : ℤ) → Contains (parts (number n)) (number n)
-number-own n = (0, omega arith, refl)
-
+-- the parts of a pair's sides are parts of it
 pub left-within : (tag : ℕ) (left right : CellTree) → IsWithin (parts left) (parts (pair tag left right))
 left-within tag left right c h = let p = contains-front (parts left) (parts right) c h in (suc p.0, omega (arith, p.1), p.2)
 
@@ -113,40 +96,6 @@ within-both xs ys zs f g c h = over (contains-either xs ys c h) where
   over : Contains xs c ⊎ Contains ys c → Contains zs c
   over (inl k) = f c k
   over (inr k) = g c k
-
--- one row
-adds-row : (s t : Standing) (c : CellTree) → Adds s t c → Contains (parts c) c → AddsParts s t c
-adds-row s t c a own = record {
-  known = a.known;
-  seen = a.seen;
-  made = rows a.made;
-  drawn = draws a.drawn;
-  quota = a.quota;
-  memo = a.memo;
-  missed = a.missed;
-} where
-  only : IsWithin (c ∷ []) (parts c)
-  only part (zero, h, e) = let P : CellTree → Type 0 = Contains (parts c) in subst P e own
-  only part (suc i, h, e) = absurd (omega arith)
-
-  nothing : IsWithin [] (parts c)
-  nothing part (i, h, e) = absurd (omega arith)
-
-  rows : (t.made ≡ s.made) ⊎ (t.made ≡ s.made ++ c ∷ []) → MakesParts s.made t.made c
-  rows (inl e) = ([], e ∙ sym (append-nil s.made), nothing)
-  rows (inr e) = (c ∷ [], e, only)
-
-  draws : Draws s t c → DrawsPart s.drawn t.drawn c
-  draws (inl e) = inl e
-  draws (inr e) = inr (c, own, e)
-
-lacks-own : (t : Standing) (c : CellTree) (answer : Result Handle Full) → Contains (parts c) c → OnErr answer (IsFullFor t c) → OnErr answer (Lacks t c)
-lacks-own t c (Ok handle) own h = h
-lacks-own t c (Err e) own h = (c, own, h)
-
--- putting one cell builds it
-pub builds-row : (s t : Standing) (c : CellTree) (answer : Result Handle Full) → Contains (parts c) c → Puts s t c answer → Builds s t c answer
-builds-row s t c answer own p = record { adds = adds-row s t c p.adds own; ok = p.ok; full = lacks-own t c answer own p.full }
 
 -- nothing is added
 pub adds-none : (s : Standing) (c : CellTree) → AddsParts s s c
@@ -205,9 +154,6 @@ pub pair-then : (s t u : Standing) (tag l r : ℕ) (left right a : CellTree) (an
     Builds t u (pair tag (meant t l) (meant t r)) answer → Builds s u (pair tag left right) answer
 pair-then s t u tag l r left right a answer e f w k b =
     builds-then s t u a (pair tag left right) answer w k (builds-as t u (pair tag (meant t l) (meant t r)) (pair tag left right) answer (same-pair tag _ _ _ _ e f) b)
-
-pub within-then : (a b c : List CellTree) → IsWithin a b → IsWithin b c → IsWithin a c
-within-then a b c f g x h = g x (f x h)
 
 -- nil is told everywhere
 pub nil-told : (s : Standing) → Stands s 0 nil → Tells s 0 nil

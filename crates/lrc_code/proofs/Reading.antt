@@ -5,11 +5,6 @@ use Rattle.lrc_store.specs.Cells.{CellTree, nil, pair}
 use Rattle.lrc_code.specs.Forms.{list_cell}
 use Rattle.lrc_code.specs.Reading.{IsPair, HasItem}
 
-get-some : (xs : List CellTree) (i : ℕ) (c : CellTree) → slice_get xs i ≡ Some c → i < length xs
-get-some [] i c e = cc
-get-some (x ∷ xs) zero c e = omega arith
-get-some (x ∷ xs) (suc i) c e = let h = get-some xs i c e in omega arith
-
 get-at : (xs : List CellTree) (i : ℕ) → i < length xs → slice_get xs i ≡ Some (get_or xs i nil)
 get-at [] i h = absurd (omega arith)
 get-at (x ∷ xs) zero h = refl
@@ -18,9 +13,6 @@ get-at (x ∷ xs) (suc i) h = get-at xs i (omega arith)
 -- the cell is the rest of a list behind so many items, and the list has an item of this number
 abbrev pub IsBehind : CellTree → ℕ → ℕ → CellTree → Type 0
 IsBehind cell passed i rest = (items : List CellTree) × (cell ≡ list_cell items) × (i < length items) × (rest ≡ list_cell (drop passed items))
-
-pub behind-none : (cell : CellTree) (i : ℕ) (item : CellTree) → HasItem cell i item → IsBehind cell 0 i cell
-behind-none cell i item (items, e, f) = (items, e, get-some items i item f, e)
 
 first-behind : (items : List CellTree) (k : ℕ) → k < length items → list_cell (drop k items) ≡ pair 4 (get_or items k nil) (list_cell (drop (suc k) items))
 first-behind items k h = ap list_cell (drop-cons items k nil h)
