@@ -1,0 +1,5 @@
+pub mod Growing
+pub mod Words
+pub mod Kids
+pub mod Decoding
+pub mod Reading

@@ -1,0 +1,44 @@
+ghost use Rattle.std.specs.Prelude.{◌≡◌, ◌≤◌, length};
+ghost use Rattle.lrc_code.specs.Forms.{word, name_cell};
+ghost use Rattle.lrc_code.specs.Building.{Builds};
+
+use crate::pairs::{nil_in, put_number, put_pair};
+use lrc_base::NameText;
+use lrc_store::{Full, Handle, Store};
+
+/// The tag of a word of a name before the words behind it.
+const NAME: u32 = 3;
+
+/// How many bytes of a name are in a word.
+const WORD: usize = 8;
+
+/// The number whose bytes, least first, are these, padded with zeros.
+fn word_of(bytes: &[u8]) -> i64
+    requires { length bytes.now ≤ 8 }
+    ensures { result ≡ word bytes.now }
+{
+    let mut padded = [0; WORD];
+    padded[..bytes.len()].copy_from_slice(bytes);
+    i64::from_le_bytes(padded)
+}
+
+/// A handle of the name: its bytes in words of eight.
+///
+/// # Errors
+///
+/// Full, only where all rows are used and a part of the name is in none.
+pub fn put_name<St: Store>(store: &mut St, name: &NameText) -> Result<Handle, Full>
+    ensures builds { Builds (St.state store.old) (St.state store.new) (name_cell name.now) result }
+    ensures same_meaning { St.meaning store.new ≡ St.meaning store.old }
+{
+    let bytes = name.bytes();
+    let words = bytes.len().div_ceil(WORD);
+    let mut rest = nil_in(store);
+    for done in 0..words {
+        let from = WORD * (words - 1 - done);
+        let to = bytes.len().min(from + WORD);
+        let word = put_number(store, word_of(&bytes[from..to]))?;
+        rest = put_pair(store, NAME, word, rest)?;
+    }
+    Ok(rest)
+}
