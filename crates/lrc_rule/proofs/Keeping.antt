@@ -158,9 +158,9 @@ module _ {S : Type 0} (slots id : ℕ) (me : Me S View) where
     pub loads : (l : Layout) (i : ℕ) → v.live ≡ true → i < memo_at v.layout 0 → Allows (Rule allows reach l) slots id me i (λ n. n) (loaded (step slots i 0 0 none) me)
     loads l i live below = at_layout l slots id i me (λ n. n) (loaded (step slots i 0 0 none) me) live (load_own i live below)
 
-    seek_own : (cell : CellTree) (c : Content) (steps : ℕ) → IsCurrent v → Fits v.layout (now v) cell c → IsPassed v.layout (now v) c steps
+    seek_own : (cell : CellTree) (c : Content) (steps : ℕ) → IsCurrent v → place_on v.layout c steps < v.layout.buckets → Fits v.layout (now v) cell c → IsPassed v.layout (now v) c steps
         → Allows (Rule allows reach v.layout) slots id me (place_on v.layout c steps) (λ n. n) (sought cell (step slots (place_on v.layout c steps) 0 0 none) me)
-    seek_own cell c steps current fits passed s r _ at _ =
+    seek_own cell c steps current inside fits passed s r _ at _ =
         let i = place_on v.layout c steps in
         let live = current.live in
         let k = r.knows id v at live in let o = r.owns id v at live in
@@ -171,6 +171,7 @@ module _ {S : Type 0} (slots id : ℕ) (me : Me S View) where
           tt,
           unmoved v.layout s r i id v notes me.1 at live,
           (
+            inside,
             refl,
             record { follows = follow v s.words v.learned.draft notes v.owned.made live k.past r.table o.range; found = refl; draft = refl; made = refl },
             noted v s.words cell (get_or s.words i 0)
@@ -178,10 +179,10 @@ module _ {S : Type 0} (slots id : ℕ) (me : Me S View) where
           ),
         )
 
-    pub seeks : (l : Layout) (i : ℕ) (cell : CellTree) (c : Content) (steps : ℕ) → IsCurrent v → i ≡ place_on v.layout c steps → Fits v.layout (now v) cell c → IsPassed v.layout (now v) c steps
+    pub seeks : (l : Layout) (i : ℕ) (cell : CellTree) (c : Content) (steps : ℕ) → IsCurrent v → i ≡ place_on v.layout c steps → i < v.layout.buckets → Fits v.layout (now v) cell c → IsPassed v.layout (now v) c steps
         → Allows (Rule allows reach l) slots id me i (λ n. n) (sought cell (step slots i 0 0 none) me)
-    seeks l i cell c steps current at fits passed = at_layout l slots id i me (λ n. n) (sought cell (step slots i 0 0 none) me) current.live
-        (subst (λ (j : ℕ). Allows (Rule allows reach v.layout) slots id me j (λ n. n) (sought cell (step slots j 0 0 none) me)) (sym at) (seek_own cell c steps current fits passed))
+    seeks l i cell c steps current at inside fits passed = at_layout l slots id i me (λ n. n) (sought cell (step slots i 0 0 none) me) current.live
+        (subst (λ (j : ℕ). Allows (Rule allows reach v.layout) slots id me j (λ n. n) (sought cell (step slots j 0 0 none) me)) (sym at) (seek_own cell c steps current (subst (λ j. j < v.layout.buckets) at inside) fits passed))
 
     store_own : (k value : ℕ) → IsCurrent v → k < 4 → k ≤ length v.learned.draft → length v.owned.made < v.owned.quota
         → Allows (Rule allows reach v.layout) slots id me (part_at v.layout (next v) k) (λ _. value) (λ _. stored (step slots (part_at v.layout (next v) k) value 0 none) me value)

@@ -85,8 +85,9 @@ Kept me me' = me'.1 ≡ me.1
 abbrev pub loaded : {S : Type 0} → Step S → Me S View → ℕ → Me S View → Type 0
 loaded st me found me' = (st.word < memo_at me.0.layout 0) × Kept me me' × Loads me.0 me'.0 st.word found × (me'.0.learned.notes ≡ me.0.learned.notes)
 
+-- a bucket is loaded, where a cell is sought
 abbrev pub sought : {S : Type 0} → CellTree → Step S → Me S View → ℕ → Me S View → Type 0
-sought cell st me found me' = Kept me me' × Loads me.0 me'.0 st.word found × Notes me.0 me'.0 cell found
+sought cell st me found me' = (st.word < me.0.layout.buckets) × Kept me me' × Loads me.0 me'.0 st.word found × Notes me.0 me'.0 cell found
 
 abbrev pub stored : {S : Type 0} → Step S → Me S View → ℕ → Me S View → Type 0
 stored st me value me' = Kept me me' × ((k : ℕ) → k < 4 → st.word ≡ part_at me.0.layout (next me.0) k → Stores me.0 me'.0 k st.first)

@@ -47,7 +47,7 @@ pub fn a_new_table_meets_the_rule<M: Meaning>()
 /// A load of any word but a memo word keeps the rule, also where a cell is sought and noted as absent.
 pub fn loads_keep_the_rule<M: Meaning>()
     ensures load { (meaning : M) (l : Layout) (slots id : ℕ) (me : Me (Unit {0}) View) (word : ℕ) → me.0.live ≡ true → word < memo_at me.0.layout 0 → Allows (Rule (M.allows meaning) (M.reach meaning) l) slots id me word (λ n. n) (loaded (step slots word 0 0 none) me) }
-    ensures seek { (meaning : M) (l : Layout) (slots id : ℕ) (me : Me (Unit {0}) View) (word : ℕ) (cell : CellTree) (c : Content) (steps : ℕ) → IsCurrent me.0 → word ≡ place_on me.0.layout c steps → Fits me.0.layout (now me.0) cell c
+    ensures seek { (meaning : M) (l : Layout) (slots id : ℕ) (me : Me (Unit {0}) View) (word : ℕ) (cell : CellTree) (c : Content) (steps : ℕ) → IsCurrent me.0 → word ≡ place_on me.0.layout c steps → word < me.0.layout.buckets → Fits me.0.layout (now me.0) cell c
         → IsPassed me.0.layout (now me.0) c steps → Allows (Rule (M.allows meaning) (M.reach meaning) l) slots id me word (λ n. n) (sought cell (step slots word 0 0 none) me) }
 {}
 
