@@ -1,5 +1,5 @@
--- A store into a row that is not published, and a row that is published, keep what is true of a table.
-use Rattle.std.proofs.Common.{◌≡◌, ◌≢◌, ◌⊎◌, inl, inr, ℕ, suc, ◌<◌, ◌≤◌, List, set, sym, ◌∙◌, ap, subst, arith, length-set, get_or-set_same, get_or-set_other}
+-- A store into a row that is not published, one into a memo word, and a row that is published, keep what is true of a table.
+use Rattle.std.proofs.Common.{◌≡◌, ◌≢◌, ◌⊎◌, inl, inr, ℕ, suc, ◌<◌, ◌≤◌, List, length, set, sym, ◌∙◌, ap, subst, arith, length-set, get_or-set_same, get_or-set_other}
 use mathlib.Core.Logic.{dite}
 use native.Mathlib.Decide.{ℕ_discrete}
 use Rattle.lrc_store.specs.Cells.{CellTree}
@@ -7,13 +7,28 @@ use Rattle.lrc_rule.specs.declared.layout.Content.{Content}
 use Rattle.lrc_rule.specs.declared.layout.Layout.{Layout}
 use Rattle.lrc_rule.specs.Layout.{part_at, memo_at}
 use Rattle.lrc_rule.specs.Rows.{bucket, part, content, Names, IsPublished, depth, Stands, Fits, IsPassed, IsTable, Grows}
+use Rattle.lrc_rule.specs.Memo.{Relation, Reach, memo, IsMemoWord, IsMemo}
 use Rattle.lrc_rule.specs.Home.{place_on}
-use Rattle.lrc_rule.proofs.Growth.{content_is, content-grown, Stands-grown, Fits-grown, IsPassed-grown}
-use Rattle.lrc_rule.proofs.Unique.{Stands-from_row}
+use Rattle.lrc_rule.proofs.Growth.{content_is, content-grown, Stands-grown, Fits-grown, IsPassed-grown, IsMemoWord-grown}
+use Rattle.lrc_rule.proofs.Unique.{Stands-from_row, published-from_named}
 
 -- two parts of rows at one word are one
 pub same_part : (l : Layout) (row k other j : ℕ) → k < 4 → j < 4 → part_at l row k ≡ part_at l other j → (row ≡ other) × (k ≡ j)
 same_part l row k other j small less e = (omega (arith, e), omega (arith, e))
+
+-- words in which buckets and published rows are as they were
+kept-table : (l : Layout) (words after : List ℕ) → IsTable l words → length after ≡ length words → ((place : ℕ) → place < l.buckets → bucket l after place ≡ bucket l words place) → Grows l words after → IsTable l after
+kept-table l words after t long same g = record {
+  whole = long ∙ t.whole;
+  within = λ place less. subst (λ n. n ≤ l.rows) (sym (same place less)) (t.within place less);
+  once = λ one other named h k. t.once one other named (h.0, sym (same one h.0) ∙ h.1) (k.0, sym (same other k.0) ∙ k.1);
+  standing = λ row h. let s = t.standing row (h.0, (h.1.0, sym (same h.0 h.1.0) ∙ h.1.1)) in (s.0, Stands-grown l words after g s.0 (suc row) s.1);
+  reached = λ place row h.
+      let k : Names l words place row = (h.0, sym (same place h.0) ∙ h.1) in
+      let r = t.reached place row k in
+      subst (λ c. (steps : ℕ) × (steps < l.buckets) × (place ≡ place_on l c steps) × IsPassed l after c steps) (sym (content-grown l words after g row (place, k)))
+      (r.0, r.1, r.2, IsPassed-grown l words after g _ r.0 r.3);
+}
 
 -- ---- a store into a row that is not published
 
@@ -40,18 +55,45 @@ module _ (l : Layout) (words : List ℕ) (t : IsTable l words) (row k value : �
   }
 
   pub store-table : IsTable l stored_words
-  store-table = record {
-    whole = length-set words (part_at l row k) value ∙ t.whole;
-    within = λ place less. subst (λ n. n ≤ l.rows) (sym (store-bucket place less)) (t.within place less);
-    once = λ one other named h g. t.once one other named (h.0, sym (store-bucket one h.0) ∙ h.1) (g.0, sym (store-bucket other g.0) ∙ g.1);
-    standing = λ other h. let s = t.standing other (store-published other h) in (s.0, Stands-grown l words stored_words store-grows s.0 (suc other) s.1);
-    reached = λ place other h.
-        let g : Names l words place other = (h.0, sym (store-bucket place h.0) ∙ h.1) in
-        let r = t.reached place other g in
-        subst (λ c. (steps : ℕ) × (steps < l.buckets) × (place ≡ place_on l c steps) × IsPassed l stored_words c steps) (sym (content-grown l words stored_words store-grows other (place, g)))
-        (r.0, r.1, r.2, IsPassed-grown l words stored_words store-grows _ r.0 r.3);
-    unused = λ place less. get_or-set_other words (part_at l row k) (memo_at l place) value 0 (λ e. omega (arith, e)) ∙ t.unused place less;
+  store-table = kept-table l words stored_words t (length-set words (part_at l row k) value) store-bucket store-grows
+
+  pub store-memo : (place : ℕ) → place < l.memo → memo l stored_words place ≡ memo l words place
+  store-memo place less = get_or-set_other words (part_at l row k) (memo_at l place) value 0 (λ e. omega (arith, e))
+
+-- ---- a store into a memo word
+
+module _ (l : Layout) (words : List ℕ) (t : IsTable l words) (place value : ℕ) (small : place < l.memo) where
+  abbrev remembered_words : List ℕ
+  remembered_words = set words (memo_at l place) value
+
+  memo_same : memo l remembered_words place ≡ value
+  memo_same = get_or-set_same words (memo_at l place) value 0 (let w = t.whole in omega (arith, w, small))
+
+  memo_other : (other : ℕ) → other ≢ place → memo l remembered_words other ≡ memo l words other
+  memo_other other n = get_or-set_other words (memo_at l place) (memo_at l other) value 0 (λ e. n (omega (arith, e)))
+
+  memo-bucket : (other : ℕ) → other < l.buckets → bucket l remembered_words other ≡ bucket l words other
+  memo-bucket other less = get_or-set_other words (memo_at l place) other value 0 (λ e. omega (arith, e, less))
+
+  pub memo-part : (row k : ℕ) → row < l.rows → k < 4 → part l remembered_words row k ≡ part l words row k
+  memo-part row k there less = get_or-set_other words (memo_at l place) (part_at l row k) value 0 (λ e. omega (arith, e, there, less))
+
+  pub memo-published : (row : ℕ) → IsPublished l remembered_words row → IsPublished l words row
+  memo-published row h = (h.0, (h.1.0, sym (memo-bucket h.0 h.1.0) ∙ h.1.1))
+
+  pub memo-grows : Grows l words remembered_words
+  memo-grows = record {
+    buckets = λ other row h. (h.0, memo-bucket other h.0 ∙ h.1);
+    parts = λ row k h less. memo-part row k (published-from_named l words t row h) less;
   }
+
+  pub memo-table : IsTable l remembered_words
+  memo-table = kept-table l words remembered_words t (length-set words (memo_at l place) value) memo-bucket memo-grows
+
+  pub memo-words : (allows : Relation) (reach : Reach) → IsMemo allows reach l words → IsMemoWord allows reach l words value → IsMemo allows reach l remembered_words
+  memo-words allows reach m h other less = dite (ℕ_discrete other place)
+      (λ e. subst (IsMemoWord allows reach l remembered_words) (sym (ap (memo l remembered_words) e ∙ memo_same)) (IsMemoWord-grown allows reach l words remembered_words memo-grows value h))
+      (λ n. subst (IsMemoWord allows reach l remembered_words) (sym (memo_other other n)) (IsMemoWord-grown allows reach l words remembered_words memo-grows (memo l words other) (m other less)))
 
 -- ---- a row that is published
 
@@ -120,5 +162,7 @@ module _ (l : Layout) (words : List ℕ) (t : IsTable l words) (row steps : ℕ)
               (steps, few, e.0, IsPassed-grown l words published_words publish-grows _ steps passed)
           | inr g ↦ let r = t.reached place other g in (r.0, r.1, r.2, IsPassed-grown l words published_words publish-grows _ r.0 r.3)
         ]);
-    unused = λ place less. get_or-set_other words (place_on l c steps) (memo_at l place) (suc row) 0 (λ e. omega (arith, e, inside)) ∙ t.unused place less;
   }
+
+  pub publish-memo : (place : ℕ) → memo l published_words place ≡ memo l words place
+  publish-memo place = get_or-set_other words (place_on l c steps) (memo_at l place) (suc row) 0 (λ e. omega (arith, e, inside))

@@ -1,9 +1,10 @@
 -- What stands in the words of a table stays, as the words grow.
-use Rattle.std.proofs.Common.{◌≡◌, ℕ, suc, ◌+◌, List, [], ◌∷◌, ◌++◌, length, refl, sym, ◌∙◌, subst, arith}
+use Rattle.std.proofs.Common.{◌≡◌, inl, inr, ⊎_elim, ℕ, suc, ◌+◌, ◌<◌, List, [], ◌∷◌, ◌++◌, length, refl, sym, ◌∙◌, subst, arith}
 use Rattle.lrc_store.specs.Cells.{CellTree, nil, number, pair}
 use Rattle.lrc_rule.specs.declared.layout.Content.{Content}
 use Rattle.lrc_rule.specs.declared.layout.Layout.{Layout}
 use Rattle.lrc_rule.specs.Rows.{part, content, IsPublished, IsNumber, IsPair, Stands, Fits, IsPassed, Grows}
+use Rattle.lrc_rule.specs.Memo.{Relation, Reach, memo, IsMemoPair, IsMemoWord, IsMemo}
 use Rattle.lrc_rule.specs.Views.{AllGrow, AreMade}
 
 pub content_is : (l : Layout) (a b : List ℕ) (row other : ℕ) → part l b row 0 ≡ part l a other 0 → part l b row 1 ≡ part l a other 1 → part l b row 2 ≡ part l a other 2 → content l b row ≡ content l a other
@@ -68,3 +69,26 @@ pub AreMade-append : (l : Layout) (a : List ℕ) (row : ℕ) (cells : List CellT
 AreMade-append l a row [] cell h k = (subst (λ n. Stands l a cell (suc n)) (let e : row + 0 ≡ row = omega arith in e) k, tt)
 AreMade-append l a row (first ∷ cells) cell h k =
     (h.0, AreMade-append l a (suc row) cells cell h.1 (subst (λ n. Stands l a cell (suc n)) (let e : row + suc (length cells) ≡ suc row + length cells = omega arith in e) k))
+
+-- ---- memo words
+
+module _ (allows : Relation) (reach : Reach) (l : Layout) (a b : List ℕ) (g : Grows l a b) where
+  pub IsMemoPair-grown : (word : ℕ) → IsMemoPair allows reach l a word → IsMemoPair allows reach l b word
+  IsMemoPair-grown word h = record {
+    call = h.call;
+    outcome = h.outcome;
+    call_row = h.call_row;
+    outcome_row = h.outcome_row;
+    word_is = h.word_is;
+    call_stands = Stands-grown l a b g h.call _ h.call_stands;
+    outcome_stands = Stands-grown l a b g h.outcome _ h.outcome_stands;
+    allowed = h.allowed;
+    reached = λ cell c. let r = h.reached cell c in (r.0, Stands-grown l a b g cell _ r.1);
+  }
+
+  pub IsMemoWord-grown : (word : ℕ) → IsMemoWord allows reach l a word → IsMemoWord allows reach l b word
+  IsMemoWord-grown word h = ⊎_elim inl (λ p. inr (IsMemoPair-grown word p)) h
+
+  -- memo words that are as they were say what they said
+  pub IsMemo-grown : ((place : ℕ) → place < l.memo → memo l b place ≡ memo l a place) → IsMemo allows reach l a → IsMemo allows reach l b
+  IsMemo-grown same m place small = subst (IsMemoWord allows reach l b) (sym (same place small)) (IsMemoWord-grown (memo l a place) (m place small))

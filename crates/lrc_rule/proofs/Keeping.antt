@@ -16,23 +16,24 @@ use Rattle.lrc_rule.specs.declared.layout.Content.{Content}
 use Rattle.lrc_rule.specs.declared.layout.Layout.{Layout}
 use Rattle.lrc_rule.specs.Layout.{word_count, part_at, memo_at}
 use Rattle.lrc_rule.specs.Home.{place_on}
+use Rattle.lrc_rule.specs.Memo.{Relation, Reach, IsMemoPair, IsMemoWord, IsMemo, MemoStep, memo_load, memo_store, memo_clear}
 use Rattle.lrc_rule.specs.Rows.{part, content, IsPublished, depth, Fits, IsAbsent, IsPassed, IsTable, Grows}
 use Rattle.lrc_rule.specs.Views.{View, Owned, now, next, AllGrow, Knows, IsRange, Owns, Rule, spent, opening_view}
-use Rattle.lrc_rule.specs.Steps.{IsCurrent, Follows, Notes, Stores, IsDraftOf, IsMade, Publishes, loaded, sought, stored, exchanged, left_of, right_of, both}
-use Rattle.lrc_rule.proofs.Growth.{Grows-refl, AllGrow-trans, AllGrow-append, AreMade-grown, AreMade-append, Fits-grown, IsPassed-grown}
+use Rattle.lrc_rule.specs.Steps.{IsCurrent, Follows, Notes, Stores, IsDraftOf, IsMade, Publishes, Memoes, loaded, sought, stored, exchanged, recalled, remembered, cleared, noting, left_of, right_of, both}
+use Rattle.lrc_rule.proofs.Growth.{Grows-refl, AllGrow-trans, AllGrow-append, AreMade-grown, AreMade-append, Fits-grown, IsPassed-grown, IsMemoWord-grown, IsMemo-grown}
 use Rattle.lrc_rule.proofs.Unique.{IsAbsent-from_path, fitting_cell_unique}
-use Rattle.lrc_rule.proofs.Extends.{same_part, store-part_same, store-part_other, store-published, store-grows, store-table, publish-grows, publish-part, publish-published, publish-stands, publish-table}
+use Rattle.lrc_rule.proofs.Extends.{same_part, store-part_same, store-part_other, store-published, store-grows, store-table, store-memo, memo-part, memo-published, memo-grows, memo-table, memo-words, publish-memo, publish-grows, publish-part, publish-published, publish-stands, publish-table}
 
 -- what other seats know and own stays, where only rows of one seat change
 knows_still : (l : Layout) (words after : List ℕ) (owner : ℕ → ℕ) (id seat : ℕ) (v : View) → Grows l words after
-    → ((row k : ℕ) → k < 4 → (owner row ≡ id → ⊥) → part l after row k ≡ part l words row k) → seat ≢ id → Knows l words v → Owns l words owner seat v.owned → Knows l after v
+    → ((row k : ℕ) → row < l.rows → k < 4 → (owner row ≡ id → ⊥) → part l after row k ≡ part l words row k) → seat ≢ id → Knows l words v → Owns l words owner seat v.owned → Knows l after v
 knows_still l words after owner id seat v g parts other k o = record {
   layout = k.layout;
   past = AllGrow-trans l v.learned.past words after k.past g;
   room = k.room;
   four = k.four;
   draft = λ j small. let room = k.room (omega (arith, small)) in let four = k.four in
-      parts (next v) j (omega (arith, small, four)) (λ e. other (sym (o.own (next v) (omega arith) (omega (arith, room))) ∙ e)) ∙ k.draft j small;
+      parts (next v) j (let range = o.range in omega (arith, range.within, room)) (omega (arith, small, four)) (λ e. other (sym (o.own (next v) (omega arith) (omega (arith, room))) ∙ e)) ∙ k.draft j small;
 }
 
 owns_still : (l : Layout) (words after : List ℕ) (owner : ℕ → ℕ) (id seat : ℕ) (o : Owned) → Grows l words after
@@ -45,7 +46,7 @@ owns_still l words after owner id seat o g published other w = record {
 
 -- the view after a step
 abbrev moved : View → List ℕ → List ℕ → List CellTree → List CellTree → View
-moved v words draft notes made = record v { learned = record { past = words ∷ []; draft = draft; notes = notes }; owned = record v.owned { made = made } }
+moved v words draft notes made = record v { learned = record { past = words ∷ []; draft = draft; notes = notes; memo_steps = v.learned.memo_steps }; owned = record v.owned { made = made } }
 
 follow : (v : View) (words draft : List ℕ) (notes made : List CellTree) → v.live ≡ true → AllGrow v.layout v.learned.past words → IsTable v.layout words
     → IsRange v.layout words (record v.owned { made = made }) → Follows v (moved v words draft notes made)
@@ -55,6 +56,7 @@ follow v words draft notes made live grown table range = record {
   current = record { live = live; past = refl; table = table; range = range };
   from = refl;
   quota = refl;
+  memo_steps = refl;
 }
 
 only_past : (l : Layout) (v : View) (words : List ℕ) → v.learned.past ≡ now v ∷ [] → AllGrow l v.learned.past words → Grows l (now v) words
@@ -80,15 +82,16 @@ pub drafted_once : (l : Layout) (words draft : List ℕ) (cell other : CellTree)
 drafted_once l words draft cell other h k =
     fitting_cell_unique l words cell other h.content h.fits (subst (Fits l words other) (sym (same_words draft h.content k.content _ _ h.whole k.whole)) k.fits)
 
-module _ {S : Type 0} (l : Layout) where
+module _ {S : Type 0} {allows : Relation} {reach : Reach} (l : Layout) where
   -- a state in which one seat has a new view, and only rows of that seat changed
-  rule_with : (s : State S View) (r : Rule l s) (id : ℕ) (w : View) (words : List ℕ) → IsTable l words → Grows l s.words words
-      → ((row k : ℕ) → k < 4 → (r.owner row ≡ id → ⊥) → part l words row k ≡ part l s.words row k)
+  rule_with : (s : State S View) (r : Rule allows reach l s) (id : ℕ) (w : View) (words : List ℕ) → IsTable l words → IsMemo allows reach l words → Grows l s.words words
+      → ((row k : ℕ) → row < l.rows → k < 4 → (r.owner row ≡ id → ⊥) → part l words row k ≡ part l s.words row k)
       → ((row : ℕ) → (r.owner row ≡ id → ⊥) → IsPublished l words row → IsPublished l s.words row)
       → Knows l words w → Owns l words r.owner id w.owned
-      → Rule l (record { words = words; homes = s.homes; views = set s.views id w })
-  rule_with s r id w words table g parts published knows owns = record {
+      → Rule allows reach l (record { words = words; homes = s.homes; views = set s.views id w })
+  rule_with s r id w words table memo_words g parts published knows owns = record {
     table = table;
+    memo = memo_words;
     owner = r.owner;
     knows = λ seat v at live. ⊎_elim (λ (t : (seat ≡ id) × (w ≡ v)). subst (Knows l words) t.1 knows)
         (λ (t : (seat ≢ id) × (get_elem? s.views seat ≡ some v)). knows_still l s.words words r.owner id seat v g parts t.0 (r.knows seat v t.1 live) (r.owns seat v t.1 live)) (at_set s.views id seat w v at);
@@ -97,63 +100,35 @@ module _ {S : Type 0} (l : Layout) where
   }
 
   -- a step that changes no word
-  unmoved : (s : State S View) (r : Rule l s) (i id : ℕ) (v : View) (notes : List CellTree) (cs : List (ℕ × S)) → get_elem? s.views id ≡ some v → v.live ≡ true
-      → Rule l (stepped s i (get_or s.words i 0) id cs (moved v s.words v.learned.draft notes v.owned.made) keeps)
+  unmoved : (s : State S View) (r : Rule allows reach l s) (i id : ℕ) (v : View) (notes : List CellTree) (cs : List (ℕ × S)) → get_elem? s.views id ≡ some v → v.live ≡ true
+      → Rule allows reach l (stepped s i (get_or s.words i 0) id cs (moved v s.words v.learned.draft notes v.owned.made) keeps)
   unmoved s r i id v notes cs at live =
       let k = r.knows id v at live in
       let w = moved v s.words v.learned.draft notes v.owned.made in
-      subst (λ (ws : List ℕ). Rule l (record { words = ws; homes = s.homes; views = set s.views id w })) (sym (set-get_or s.words i 0))
-      (rule_with s r id w s.words r.table (Grows-refl l s.words) (λ _ _ _ _. refl) (λ _ _ h. h)
+      subst (λ (ws : List ℕ). Rule allows reach l (record { words = ws; homes = s.homes; views = set s.views id w })) (sym (set-get_or s.words i 0))
+      (rule_with s r id w s.words r.table r.memo (Grows-refl l s.words) (λ _ _ _ _ _. refl) (λ _ _ h. h)
+      (record { layout = k.layout; past = (Grows-refl l s.words, tt); room = k.room; four = k.four; draft = k.draft }) (r.owns id v at live))
+
+  -- a step on a memo word that changes no word
+  unmoved_noting : (s : State S View) (r : Rule allows reach l s) (i id : ℕ) (v : View) (entry : MemoStep) (cs : List (ℕ × S)) → get_elem? s.views id ≡ some v → v.live ≡ true
+      → Rule allows reach l (stepped s i (get_or s.words i 0) id cs (moved (noting v entry) s.words v.learned.draft v.learned.notes v.owned.made) keeps)
+  unmoved_noting s r i id v entry cs at live =
+      let k = r.knows id v at live in
+      let w = moved (noting v entry) s.words v.learned.draft v.learned.notes v.owned.made in
+      subst (λ (ws : List ℕ). Rule allows reach l (record { words = ws; homes = s.homes; views = set s.views id w })) (sym (set-get_or s.words i 0))
+      (rule_with s r id w s.words r.table r.memo (Grows-refl l s.words) (λ _ _ _ _ _. refl) (λ _ _ h. h)
       (record { layout = k.layout; past = (Grows-refl l s.words, tt); room = k.room; four = k.four; draft = k.draft }) (r.owns id v at live))
 
   -- a pass's layout is that of the rule
-  at_layout : (slots id i : ℕ) (me : Me S View) (f : ℕ → ℕ) (then : ℕ → Me S View → Type 0) → me.0.live ≡ true → Allows (Rule me.0.layout) slots id me i f then → Allows (Rule l) slots id me i f then
-  at_layout slots id i me f then live allows s r h at small =
+  at_layout : (slots id i : ℕ) (me : Me S View) (f : ℕ → ℕ) (then : ℕ → Me S View → Type 0) → me.0.live ≡ true → Allows (Rule allows reach me.0.layout) slots id me i f then → Allows (Rule allows reach l) slots id me i f then
+  at_layout slots id i me f then live may s r h at small =
       let e = (r.knows id me.0 at live).layout in
-      let a = allows s (subst (λ m. Rule m s) (sym e) r) h at small in
-      (a.0, a.1, a.2, subst (λ m. Rule m (stepped s i (f (get_or s.words i 0)) id me.1 a.0 a.1)) e a.3, a.4)
+      let a = may s (subst (λ m. Rule allows reach m s) (sym e) r) h at small in
+      (a.0, a.1, a.2, subst (λ m. Rule allows reach m (stepped s i (f (get_or s.words i 0)) id me.1 a.0 a.1)) e a.3, a.4)
 
 module _ {S : Type 0} (slots id : ℕ) (me : Me S View) where
   abbrev v : View
   v = me.0
-
-  load_own : (i : ℕ) → v.live ≡ true → Allows (Rule v.layout) slots id me i (λ n. n) (loaded (step slots i 0 0 none) me)
-  load_own i live s r _ at _ =
-      let k = r.knows id v at live in let o = r.owns id v at live in (
-        moved v s.words v.learned.draft v.learned.notes v.owned.made,
-        keeps,
-        tt,
-        unmoved v.layout s r i id v v.learned.notes me.1 at live,
-        (refl, record { follows = follow v s.words v.learned.draft v.learned.notes v.owned.made live k.past r.table o.range; found = refl; draft = refl; made = refl }, refl),
-      )
-
-  pub loads : (l : Layout) (i : ℕ) → v.live ≡ true → Allows (Rule l) slots id me i (λ n. n) (loaded (step slots i 0 0 none) me)
-  loads l i live = at_layout l slots id i me (λ n. n) (loaded (step slots i 0 0 none) me) live (load_own i live)
-
-  seek_own : (cell : CellTree) (c : Content) (steps : ℕ) → IsCurrent v → Fits v.layout (now v) cell c → IsPassed v.layout (now v) c steps
-      → Allows (Rule v.layout) slots id me (place_on v.layout c steps) (λ n. n) (sought cell (step slots (place_on v.layout c steps) 0 0 none) me)
-  seek_own cell c steps current fits passed s r _ at _ =
-      let i = place_on v.layout c steps in
-      let live = current.live in
-      let k = r.knows id v at live in let o = r.owns id v at live in
-      let g = only_past v.layout v s.words current.past k.past in
-      let notes = notes_after v.learned.notes cell (get_or s.words i 0) in (
-        moved v s.words v.learned.draft notes v.owned.made,
-        keeps,
-        tt,
-        unmoved v.layout s r i id v notes me.1 at live,
-        (
-          refl,
-          record { follows = follow v s.words v.learned.draft notes v.owned.made live k.past r.table o.range; found = refl; draft = refl; made = refl },
-          noted v s.words cell (get_or s.words i 0)
-              (λ e. IsAbsent-from_path v.layout s.words r.table cell c steps (Fits-grown v.layout (now v) s.words g cell c fits) (IsPassed-grown v.layout (now v) s.words g c steps passed) e),
-        ),
-      )
-
-  pub seeks : (l : Layout) (i : ℕ) (cell : CellTree) (c : Content) (steps : ℕ) → IsCurrent v → i ≡ place_on v.layout c steps → Fits v.layout (now v) cell c → IsPassed v.layout (now v) c steps
-      → Allows (Rule l) slots id me i (λ n. n) (sought cell (step slots i 0 0 none) me)
-  seeks l i cell c steps current at fits passed = at_layout l slots id i me (λ n. n) (sought cell (step slots i 0 0 none) me) current.live
-      (subst (λ (j : ℕ). Allows (Rule v.layout) slots id me j (λ n. n) (sought cell (step slots j 0 0 none) me)) (sym at) (seek_own cell c steps current fits passed))
 
   drafted : (ws after draft : List ℕ) (row k value : ℕ) → k ≤ length draft → ((j : ℕ) → j < length draft → part v.layout ws row j ≡ get_or draft j 0) → part v.layout after row k ≡ value
       → ((j : ℕ) → j < k → part v.layout after row j ≡ part v.layout ws row j) → (j : ℕ) → j < length (take k draft ++ value ∷ []) → part v.layout after row j ≡ get_or (take k draft ++ value ∷ []) j 0
@@ -165,140 +140,271 @@ module _ {S : Type 0} (slots id : ℕ) (me : Me S View) where
       (λ more. let e : j ≡ k = omega (arith, more, long) in
       ap (part v.layout after row) e ∙ (new ∙ sym (ap (λ n. get_or (take k draft ++ value ∷ []) n 0) (e ∙ sym kept) ∙ get_or-append_seam (take k draft) value [] 0)))
 
-  store_own : (k value : ℕ) → IsCurrent v → k < 4 → k ≤ length v.learned.draft → length v.owned.made < v.owned.quota
-      → Allows (Rule v.layout) slots id me (part_at v.layout (next v) k) (λ _. value) (λ _. stored (step slots (part_at v.layout (next v) k) value 0 none) me value)
-  store_own k value current small few room s r _ at _ =
-      let i = part_at v.layout (next v) k in
-      let live = current.live in
-      let t = r.table in
-      let n = r.knows id v at live in let o = r.owns id v at live in
-      let range = o.range in
-      let draft = take k v.learned.draft ++ value ∷ [] in
-      let after = set s.words i value in
-      let there : next v < v.layout.rows = omega (arith, range.within, room) in
-      let mine = o.own (next v) (omega arith) (omega (arith, room)) in
-      let free = o.unmade (next v) (omega arith) (omega (arith, room)) in
-      let g = store-grows v.layout s.words t (next v) k value small there free in
-      let table = store-table v.layout s.words t (next v) k value small there free in
-      let made = AreMade-grown v.layout s.words after g v.owned.from v.owned.made range.made in
-      let long : length draft ≡ suc k = length-append (take k v.learned.draft) (value ∷ []) ∙ (let e = length-take k v.learned.draft in omega (arith, e, few)) in
-      let w = moved v after draft v.learned.notes v.owned.made in (
-        w,
-        keeps,
-        tt,
-        rule_with v.layout s r id w after table g
-            (λ row j less other. store-part_other v.layout s.words t (next v) k value small there free row j less (λ e _. other (subst (λ x. r.owner x ≡ id) e mine)))
-            (λ row other h. store-published v.layout s.words t (next v) k value small there free row h)
-            (record {
-              layout = refl;
-              past = (Grows-refl v.layout after, tt);
-              room = λ _. room;
-              four = omega (arith, long, small);
-              draft = drafted s.words after v.learned.draft (next v) k value few n.draft (store-part_same v.layout s.words t (next v) k value small there free)
-                  (λ j less. store-part_other v.layout s.words t (next v) k value small there free (next v) j (omega (arith, less, small)) (λ _ e. omega (arith, e, less)));
-            })
-            (record {
-              range = record { within = range.within; count = range.count; made = made };
-              own = o.own;
-              unmade = λ row from to h. o.unmade row from to (store-published v.layout s.words t (next v) k value small there free row h);
-            }),
-        (
-          refl,
-          λ j less e. let same = (same_part v.layout (next v) k (next v) j small less e).1 in subst (λ m. Stores v w m value) same (record {
-            follows = follow v after draft v.learned.notes v.owned.made live (AllGrow-trans v.layout v.learned.past s.words after n.past g) table (record { within = range.within; count = range.count; made = made });
-            draft = refl;
-            made = refl;
-            notes = refl;
-          }),
-        ),
-      )
-
-  pub stores : (l : Layout) (i k value : ℕ) → IsCurrent v → i ≡ part_at v.layout (next v) k → k < 4 → k ≤ length v.learned.draft → length v.owned.made < v.owned.quota
-      → Allows (Rule l) slots id me i (λ _. value) (λ _. stored (step slots i value 0 none) me value)
-  stores l i k value current at small few room = at_layout l slots id i me (λ _. value) (λ _. stored (step slots i value 0 none) me value) current.live
-      (subst (λ (j : ℕ). Allows (Rule v.layout) slots id me j (λ _. value) (λ _. stored (step slots j value 0 none) me value)) (sym at) (store_own k value current small few room))
-
   lost : (i : ℕ) (ws : List ℕ) (found : ℕ) → found ≢ 0 → found ≡ get_or ws i 0 → Publishes v (moved v ws v.learned.draft v.learned.notes v.owned.made) i found
   lost i ws zero n e = absurd (n refl)
   lost i ws (suc found) n e = (e, refl, refl)
 
-  publish_own : (cell : CellTree) (steps : ℕ) → IsCurrent v → (d : IsDraftOf v.layout (now v) v.learned.draft cell) → steps < v.layout.buckets → place_on v.layout d.content steps < v.layout.buckets
-      → IsPassed v.layout (now v) d.content steps → length v.owned.made < v.owned.quota
-      → Allows (Rule v.layout) slots id me (place_on v.layout d.content steps) (λ n. either (eqb n 0) (suc (next v)) n) (exchanged (step slots (place_on v.layout d.content steps) 0 (suc (next v)) none) me)
-  publish_own cell steps current d few inside passed room s r _ at _ =
-      let i = place_on v.layout d.content steps in
-      let x : ℕ = get_or s.words i 0 in
+  module _ {allows : Relation} {reach : Reach} where
+    load_own : (i : ℕ) → v.live ≡ true → i < memo_at v.layout 0 → Allows (Rule allows reach v.layout) slots id me i (λ n. n) (loaded (step slots i 0 0 none) me)
+    load_own i live below s r _ at _ =
+        let k = r.knows id v at live in let o = r.owns id v at live in (
+          moved v s.words v.learned.draft v.learned.notes v.owned.made,
+          keeps,
+          tt,
+          unmoved v.layout s r i id v v.learned.notes me.1 at live,
+          (below, refl, record { follows = follow v s.words v.learned.draft v.learned.notes v.owned.made live k.past r.table o.range; found = refl; draft = refl; made = refl }, refl),
+        )
+
+    pub loads : (l : Layout) (i : ℕ) → v.live ≡ true → i < memo_at v.layout 0 → Allows (Rule allows reach l) slots id me i (λ n. n) (loaded (step slots i 0 0 none) me)
+    loads l i live below = at_layout l slots id i me (λ n. n) (loaded (step slots i 0 0 none) me) live (load_own i live below)
+
+    seek_own : (cell : CellTree) (c : Content) (steps : ℕ) → IsCurrent v → place_on v.layout c steps < v.layout.buckets → Fits v.layout (now v) cell c → IsPassed v.layout (now v) c steps
+        → Allows (Rule allows reach v.layout) slots id me (place_on v.layout c steps) (λ n. n) (sought cell (step slots (place_on v.layout c steps) 0 0 none) me)
+    seek_own cell c steps current inside fits passed s r _ at _ =
+        let i = place_on v.layout c steps in
+        let live = current.live in
+        let k = r.knows id v at live in let o = r.owns id v at live in
+        let g = only_past v.layout v s.words current.past k.past in
+        let notes = notes_after v.learned.notes cell (get_or s.words i 0) in (
+          moved v s.words v.learned.draft notes v.owned.made,
+          keeps,
+          tt,
+          unmoved v.layout s r i id v notes me.1 at live,
+          (
+            inside,
+            refl,
+            record { follows = follow v s.words v.learned.draft notes v.owned.made live k.past r.table o.range; found = refl; draft = refl; made = refl },
+            noted v s.words cell (get_or s.words i 0)
+                (λ e. IsAbsent-from_path v.layout s.words r.table cell c steps (Fits-grown v.layout (now v) s.words g cell c fits) (IsPassed-grown v.layout (now v) s.words g c steps passed) e),
+          ),
+        )
+
+    pub seeks : (l : Layout) (i : ℕ) (cell : CellTree) (c : Content) (steps : ℕ) → IsCurrent v → i ≡ place_on v.layout c steps → i < v.layout.buckets → Fits v.layout (now v) cell c → IsPassed v.layout (now v) c steps
+        → Allows (Rule allows reach l) slots id me i (λ n. n) (sought cell (step slots i 0 0 none) me)
+    seeks l i cell c steps current at inside fits passed = at_layout l slots id i me (λ n. n) (sought cell (step slots i 0 0 none) me) current.live
+        (subst (λ (j : ℕ). Allows (Rule allows reach v.layout) slots id me j (λ n. n) (sought cell (step slots j 0 0 none) me)) (sym at) (seek_own cell c steps current (subst (λ j. j < v.layout.buckets) at inside) fits passed))
+
+    store_own : (k value : ℕ) → IsCurrent v → k < 4 → k ≤ length v.learned.draft → length v.owned.made < v.owned.quota
+        → Allows (Rule allows reach v.layout) slots id me (part_at v.layout (next v) k) (λ _. value) (λ _. stored (step slots (part_at v.layout (next v) k) value 0 none) me value)
+    store_own k value current small few room s r _ at _ =
+        let i = part_at v.layout (next v) k in
+        let live = current.live in
+        let t = r.table in
+        let n = r.knows id v at live in let o = r.owns id v at live in
+        let range = o.range in
+        let draft = take k v.learned.draft ++ value ∷ [] in
+        let after = set s.words i value in
+        let there : next v < v.layout.rows = omega (arith, range.within, room) in
+        let mine = o.own (next v) (omega arith) (omega (arith, room)) in
+        let free = o.unmade (next v) (omega arith) (omega (arith, room)) in
+        let g = store-grows v.layout s.words t (next v) k value small there free in
+        let table = store-table v.layout s.words t (next v) k value small there free in
+        let made = AreMade-grown v.layout s.words after g v.owned.from v.owned.made range.made in
+        let long : length draft ≡ suc k = length-append (take k v.learned.draft) (value ∷ []) ∙ (let e = length-take k v.learned.draft in omega (arith, e, few)) in
+        let w = moved v after draft v.learned.notes v.owned.made in (
+          w,
+          keeps,
+          tt,
+          rule_with v.layout s r id w after table (IsMemo-grown allows reach v.layout s.words after g (store-memo v.layout s.words t (next v) k value small there free) r.memo) g
+              (λ row j _ less other. store-part_other v.layout s.words t (next v) k value small there free row j less (λ e _. other (subst (λ x. r.owner x ≡ id) e mine)))
+              (λ row other h. store-published v.layout s.words t (next v) k value small there free row h)
+              (record {
+                layout = refl;
+                past = (Grows-refl v.layout after, tt);
+                room = λ _. room;
+                four = omega (arith, long, small);
+                draft = drafted s.words after v.learned.draft (next v) k value few n.draft (store-part_same v.layout s.words t (next v) k value small there free)
+                    (λ j less. store-part_other v.layout s.words t (next v) k value small there free (next v) j (omega (arith, less, small)) (λ _ e. omega (arith, e, less)));
+              })
+              (record {
+                range = record { within = range.within; count = range.count; made = made };
+                own = o.own;
+                unmade = λ row from to h. o.unmade row from to (store-published v.layout s.words t (next v) k value small there free row h);
+              }),
+          (
+            refl,
+            λ j less e. let same = (same_part v.layout (next v) k (next v) j small less e).1 in subst (λ m. Stores v w m value) same (record {
+              follows = follow v after draft v.learned.notes v.owned.made live (AllGrow-trans v.layout v.learned.past s.words after n.past g) table (record { within = range.within; count = range.count; made = made });
+              draft = refl;
+              made = refl;
+              notes = refl;
+            }),
+          ),
+        )
+
+    pub stores : (l : Layout) (i k value : ℕ) → IsCurrent v → i ≡ part_at v.layout (next v) k → k < 4 → k ≤ length v.learned.draft → length v.owned.made < v.owned.quota
+        → Allows (Rule allows reach l) slots id me i (λ _. value) (λ _. stored (step slots i value 0 none) me value)
+    stores l i k value current at small few room = at_layout l slots id i me (λ _. value) (λ _. stored (step slots i value 0 none) me value) current.live
+        (subst (λ (j : ℕ). Allows (Rule allows reach v.layout) slots id me j (λ _. value) (λ _. stored (step slots j value 0 none) me value)) (sym at) (store_own k value current small few room))
+
+    publish_own : (cell : CellTree) (steps : ℕ) → IsCurrent v → (d : IsDraftOf v.layout (now v) v.learned.draft cell) → steps < v.layout.buckets → place_on v.layout d.content steps < v.layout.buckets
+        → IsPassed v.layout (now v) d.content steps → length v.owned.made < v.owned.quota
+        → Allows (Rule allows reach v.layout) slots id me (place_on v.layout d.content steps) (λ n. either (eqb n 0) (suc (next v)) n) (exchanged (step slots (place_on v.layout d.content steps) 0 (suc (next v)) none) me)
+    publish_own cell steps current d few inside passed room s r _ at _ =
+        let i = place_on v.layout d.content steps in
+        let x : ℕ = get_or s.words i 0 in
+        let live = current.live in
+        let t = r.table in
+        let n = r.knows id v at live in let o = r.owns id v at live in
+        let range = o.range in
+        let g = only_past v.layout v s.words current.past n.past in
+        let there : next v < v.layout.rows = omega (arith, range.within, room) in
+        let mine = o.own (next v) (omega arith) (omega (arith, room)) in
+        let free = o.unmade (next v) (omega arith) (omega (arith, room)) in
+        let fits = Fits-grown v.layout (now v) s.words g cell d.content d.fits in
+        let past = IsPassed-grown v.layout (now v) s.words g d.content steps passed in
+        let four = d.whole in
+        let written : (j : ℕ) → j < 4 → part v.layout s.words (next v) j ≡ get_or (d.content.tag ∷ d.content.left ∷ d.content.right ∷ depth cell ∷ []) j 0
+        = λ j less. n.draft j (let e = ap (λ (xs : List ℕ). length xs) four in omega (arith, e, less)) ∙ ap (λ (xs : List ℕ). get_or xs j 0) four in
+        let same : content v.layout s.words (next v) ≡ d.content = (λ j. record { tag = written 0 (omega arith) j; left = written 1 (omega arith) j; right = written 2 (omega arith) j }) in
+        dite (ℕ_discrete x 0)
+        (λ hit.
+        let after = set s.words i (suc (next v)) in
+        let made = v.owned.made ++ cell ∷ [] in
+        let grown = publish-grows v.layout s.words t (next v) steps cell d.content same there free few hit past fits (written 3 (omega arith)) inside in
+        let table = publish-table v.layout s.words t (next v) steps cell d.content same there free few hit past fits (written 3 (omega arith)) inside in
+        let stands = publish-stands v.layout s.words t (next v) steps cell d.content same there free few hit past fits (written 3 (omega arith)) inside in
+        let published : (row : ℕ) → IsPublished v.layout after row → (row ≡ next v) ⊎ IsPublished v.layout s.words row
+        = publish-published v.layout s.words t (next v) steps cell d.content same there free few hit past fits (written 3 (omega arith)) inside in
+        let long : length made ≡ suc (length v.owned.made) = (let e = length-append v.owned.made (cell ∷ []) in omega (arith, e)) in
+        let in_range : IsRange v.layout after (record v.owned { made = made }) = record {
+          within = range.within;
+          count = omega (arith, long, room);
+          made = AreMade-append v.layout after v.owned.from v.owned.made cell (AreMade-grown v.layout s.words after grown v.owned.from v.owned.made range.made) stands;
+        } in
+        let w = moved v after [] v.learned.notes made in (
+          w,
+          keeps,
+          tt,
+          subst (λ b. Rule allows reach v.layout (stepped s i (either b (suc (next v)) x) id me.1 w keeps)) (sym (eq-eqb x 0 hit))
+              (rule_with v.layout s r id w after table
+              (IsMemo-grown allows reach v.layout s.words after grown (λ place _. publish-memo v.layout s.words t (next v) steps cell d.content same there free few hit past fits (written 3 (omega arith)) inside place) r.memo) grown
+              (λ row j _ less _. publish-part v.layout s.words t (next v) steps cell d.content same there free few hit past fits (written 3 (omega arith)) inside row j)
+              (λ row other h. elim (published row h) [ inl e ↦ absurd (other (ap r.owner e ∙ mine)) | inr p ↦ p ])
+              (record { layout = refl; past = (Grows-refl v.layout after, tt); room = λ none_drafted. absurd (omega (arith, none_drafted)); four = omega arith; draft = λ j none_drafted. absurd (omega (arith, none_drafted)) })
+              (record {
+                range = in_range;
+                own = o.own;
+                unmade = λ row from to h. elim (published row h) [
+                  | inl e ↦ absurd (omega (arith, e, from, long))
+                  | inr p ↦ o.unmade row (omega (arith, from, long)) to p
+                ];
+              })),
+          (
+            refl,
+            record {
+              follows = follow v after [] v.learned.notes made live (AllGrow-trans v.layout v.learned.past s.words after n.past grown) table in_range;
+              notes = refl;
+              publishes = subst (λ m. Publishes v w i m) (sym hit) (λ other drafts.
+                  subst (IsMade v w) (drafted_once v.layout (now v) v.learned.draft cell other d drafts) (record { stands = stands; made = refl; draft = refl }));
+            },
+          ),
+        ))
+        (λ miss. (
+          moved v s.words v.learned.draft v.learned.notes v.owned.made,
+          keeps,
+          tt,
+          subst (λ b. Rule allows reach v.layout (stepped s i (either b (suc (next v)) x) id me.1 (moved v s.words v.learned.draft v.learned.notes v.owned.made) keeps)) (sym (ne_eqb x 0 miss))
+              (unmoved v.layout s r i id v v.learned.notes me.1 at live),
+          (refl, record { follows = follow v s.words v.learned.draft v.learned.notes v.owned.made live n.past t range; notes = refl; publishes = lost i s.words x miss refl }),
+        ))
+
+    pub publishes : (l : Layout) (i new : ℕ) (cell : CellTree) (steps : ℕ) → IsCurrent v → (d : IsDraftOf v.layout (now v) v.learned.draft cell) → i ≡ place_on v.layout d.content steps → steps < v.layout.buckets
+        → i < v.layout.buckets → IsPassed v.layout (now v) d.content steps → length v.owned.made < v.owned.quota → new ≡ suc (next v)
+        → Allows (Rule allows reach l) slots id me i (λ n. either (eqb n 0) new n) (exchanged (step slots i 0 new none) me)
+    publishes l i new cell steps current d at few inside passed room named = at_layout l slots id i me (λ n. either (eqb n 0) new n) (exchanged (step slots i 0 new none) me) current.live
+        (subst (λ (x : ℕ × ℕ). Allows (Rule allows reach v.layout) slots id me x.0 (λ n. either (eqb n 0) x.1 n) (exchanged (step slots x.0 0 x.1 none) me)) (λ j. (sym at j, sym named j))
+        (publish_own cell steps current d few (subst (λ j. j < v.layout.buckets) at inside) passed room))
+
+-- ---- memo words
+
+-- two memo words at one place are one
+same_place : (l : Layout) (place other : ℕ) → memo_at l place ≡ memo_at l other → place ≡ other
+same_place l place other e = omega (arith, e)
+
+-- the view after a step on a memo word
+abbrev noted_view : View → MemoStep → List ℕ → View
+noted_view v entry words = moved (noting v entry) words v.learned.draft v.learned.notes v.owned.made
+
+memoes : (v : View) (entry : MemoStep) (words : List ℕ) → v.live ≡ true → AllGrow v.layout v.learned.past words → IsTable v.layout words → IsRange v.layout words v.owned → Memoes v (noted_view v entry words) entry
+memoes v entry words live grown table range = record {
+  follows = follow (noting v entry) words v.learned.draft v.learned.notes v.owned.made live grown table range;
+  draft = refl;
+  notes = refl;
+  made = refl;
+}
+
+module _ {S : Type 0} {allows : Relation} {reach : Reach} (slots id : ℕ) (me : Me S View) where
+  memo_load_own : (place : ℕ) → me.0.live ≡ true → place < me.0.layout.memo
+      → Allows (Rule allows reach me.0.layout) slots id me (memo_at me.0.layout place) (λ n. n) (recalled allows reach (step slots (memo_at me.0.layout place) 0 0 none) me)
+  memo_load_own place live small s r _ at _ =
+      let v = me.0 in
+      let i = memo_at v.layout place in
+      let found : ℕ = get_or s.words i 0 in
+      let entry = memo_load place found in (
+        noted_view v entry s.words,
+        keeps,
+        tt,
+        unmoved_noting v.layout s r i id v entry me.1 at live,
+        (
+          refl,
+          r.memo place small,
+          λ other e. subst (λ p. Memoes v (noted_view v entry s.words) (memo_load p found)) (same_place v.layout place other e)
+              (memoes v entry s.words live (r.knows id v at live).past r.table (r.owns id v at live).range),
+        ),
+      )
+
+  pub memo_loads : (l : Layout) (i place : ℕ) → me.0.live ≡ true → i ≡ memo_at me.0.layout place → place < me.0.layout.memo
+      → Allows (Rule allows reach l) slots id me i (λ n. n) (recalled allows reach (step slots i 0 0 none) me)
+  memo_loads l i place live at small = at_layout l slots id i me (λ n. n) (recalled allows reach (step slots i 0 0 none) me) live
+      (subst (λ (j : ℕ). Allows (Rule allows reach me.0.layout) slots id me j (λ n. n) (recalled allows reach (step slots j 0 0 none) me)) (sym at) (memo_load_own place live small))
+
+  -- a word that may be there is stored
+  memo_store_own : (place value : ℕ) (entry : MemoStep) → IsCurrent me.0 → place < me.0.layout.memo → IsMemoWord allows reach me.0.layout (now me.0) value
+      → Allows (Rule allows reach me.0.layout) slots id me (memo_at me.0.layout place) (λ _. value) (λ _ me'. (me'.1 ≡ me.1) × Memoes me.0 me'.0 entry)
+  memo_store_own place value entry current small may s r _ at _ =
+      let v = me.0 in
+      let i = memo_at v.layout place in
       let live = current.live in
       let t = r.table in
       let n = r.knows id v at live in let o = r.owns id v at live in
       let range = o.range in
-      let g = only_past v.layout v s.words current.past n.past in
-      let there : next v < v.layout.rows = omega (arith, range.within, room) in
-      let mine = o.own (next v) (omega arith) (omega (arith, room)) in
-      let free = o.unmade (next v) (omega arith) (omega (arith, room)) in
-      let fits = Fits-grown v.layout (now v) s.words g cell d.content d.fits in
-      let past = IsPassed-grown v.layout (now v) s.words g d.content steps passed in
-      let four = d.whole in
-      let written : (j : ℕ) → j < 4 → part v.layout s.words (next v) j ≡ get_or (d.content.tag ∷ d.content.left ∷ d.content.right ∷ depth cell ∷ []) j 0
-      = λ j less. n.draft j (let e = ap (λ (xs : List ℕ). length xs) four in omega (arith, e, less)) ∙ ap (λ (xs : List ℕ). get_or xs j 0) four in
-      let same : content v.layout s.words (next v) ≡ d.content = (λ j. record { tag = written 0 (omega arith) j; left = written 1 (omega arith) j; right = written 2 (omega arith) j }) in
-      dite (ℕ_discrete x 0)
-      (λ hit.
-      let after = set s.words i (suc (next v)) in
-      let made = v.owned.made ++ cell ∷ [] in
-      let grown = publish-grows v.layout s.words t (next v) steps cell d.content same there free few hit past fits (written 3 (omega arith)) inside in
-      let table = publish-table v.layout s.words t (next v) steps cell d.content same there free few hit past fits (written 3 (omega arith)) inside in
-      let stands = publish-stands v.layout s.words t (next v) steps cell d.content same there free few hit past fits (written 3 (omega arith)) inside in
-      let published : (row : ℕ) → IsPublished v.layout after row → (row ≡ next v) ⊎ IsPublished v.layout s.words row
-      = publish-published v.layout s.words t (next v) steps cell d.content same there free few hit past fits (written 3 (omega arith)) inside in
-      let long : length made ≡ suc (length v.owned.made) = (let e = length-append v.owned.made (cell ∷ []) in omega (arith, e)) in
-      let in_range : IsRange v.layout after (record v.owned { made = made }) = record {
-        within = range.within;
-        count = omega (arith, long, room);
-        made = AreMade-append v.layout after v.owned.from v.owned.made cell (AreMade-grown v.layout s.words after grown v.owned.from v.owned.made range.made) stands;
-      } in
-      let w = moved v after [] v.learned.notes made in (
-        w,
+      let after = set s.words i value in
+      let g = memo-grows v.layout s.words t place value small in
+      let table = memo-table v.layout s.words t place value small in
+      let may_now = IsMemoWord-grown allows reach v.layout (now v) s.words (only_past v.layout v s.words current.past n.past) value may in
+      let made = AreMade-grown v.layout s.words after g v.owned.from v.owned.made range.made in
+      let in_range : IsRange v.layout after v.owned = record { within = range.within; count = range.count; made = made } in (
+        noted_view v entry after,
         keeps,
         tt,
-        subst (λ b. Rule v.layout (stepped s i (either b (suc (next v)) x) id me.1 w keeps)) (sym (eq-eqb x 0 hit))
-            (rule_with v.layout s r id w after table grown
-            (λ row j less _. publish-part v.layout s.words t (next v) steps cell d.content same there free few hit past fits (written 3 (omega arith)) inside row j)
-            (λ row other h. elim (published row h) [ inl e ↦ absurd (other (ap r.owner e ∙ mine)) | inr p ↦ p ])
-            (record { layout = refl; past = (Grows-refl v.layout after, tt); room = λ none_drafted. absurd (omega (arith, none_drafted)); four = omega arith; draft = λ j none_drafted. absurd (omega (arith, none_drafted)) })
+        rule_with v.layout s r id (noted_view v entry after) after table (memo-words v.layout s.words t place value small allows reach r.memo may_now) g
+            (λ row j there less _. memo-part v.layout s.words t place value small row j there less)
+            (λ row _ h. memo-published v.layout s.words t place value small row h)
             (record {
-              range = in_range;
-              own = o.own;
-              unmade = λ row from to h. elim (published row h) [
-                | inl e ↦ absurd (omega (arith, e, from, long))
-                | inr p ↦ o.unmade row (omega (arith, from, long)) to p
-              ];
-            })),
-        (
-          refl,
-          record {
-            follows = follow v after [] v.learned.notes made live (AllGrow-trans v.layout v.learned.past s.words after n.past grown) table in_range;
-            notes = refl;
-            publishes = subst (λ m. Publishes v w i m) (sym hit) (λ other drafts.
-                subst (IsMade v w) (drafted_once v.layout (now v) v.learned.draft cell other d drafts) (record { stands = stands; made = refl; draft = refl }));
-          },
-        ),
-      ))
-      (λ miss. (
-        moved v s.words v.learned.draft v.learned.notes v.owned.made,
-        keeps,
-        tt,
-        subst (λ b. Rule v.layout (stepped s i (either b (suc (next v)) x) id me.1 (moved v s.words v.learned.draft v.learned.notes v.owned.made) keeps)) (sym (ne_eqb x 0 miss))
-            (unmoved v.layout s r i id v v.learned.notes me.1 at live),
-        (refl, record { follows = follow v s.words v.learned.draft v.learned.notes v.owned.made live n.past t range; notes = refl; publishes = lost i s.words x miss refl }),
-      ))
+              layout = refl;
+              past = (Grows-refl v.layout after, tt);
+              room = n.room;
+              four = n.four;
+              draft = λ j less. memo-part v.layout s.words t place value small (next v) j (let room = n.room (omega (arith, less)) in omega (arith, range.within, room)) (let four = n.four in omega (arith, less, four)) ∙ n.draft j less;
+            })
+            (record { range = in_range; own = o.own; unmade = λ row from to h. o.unmade row from to (memo-published v.layout s.words t place value small row h) }),
+        (refl, memoes v entry after live (AllGrow-trans v.layout v.learned.past s.words after n.past g) table in_range),
+      )
 
-  pub publishes : (l : Layout) (i new : ℕ) (cell : CellTree) (steps : ℕ) → IsCurrent v → (d : IsDraftOf v.layout (now v) v.learned.draft cell) → i ≡ place_on v.layout d.content steps → steps < v.layout.buckets
-      → i < v.layout.buckets → IsPassed v.layout (now v) d.content steps → length v.owned.made < v.owned.quota → new ≡ suc (next v)
-      → Allows (Rule l) slots id me i (λ n. either (eqb n 0) new n) (exchanged (step slots i 0 new none) me)
-  publishes l i new cell steps current d at few inside passed room named = at_layout l slots id i me (λ n. either (eqb n 0) new n) (exchanged (step slots i 0 new none) me) current.live
-      (subst (λ (x : ℕ × ℕ). Allows (Rule v.layout) slots id me x.0 (λ n. either (eqb n 0) x.1 n) (exchanged (step slots x.0 0 x.1 none) me)) (λ j. (sym at j, sym named j))
-      (publish_own cell steps current d few (subst (λ j. j < v.layout.buckets) at inside) passed room))
+  pub memo_stores : (l : Layout) (i place value : ℕ) → IsCurrent me.0 → i ≡ memo_at me.0.layout place → place < me.0.layout.memo → IsMemoPair allows reach me.0.layout (now me.0) value
+      → Allows (Rule allows reach l) slots id me i (λ _. value) (λ _. remembered (step slots i value 0 none) me value)
+  memo_stores l i place value current at small may = at_layout l slots id i me (λ _. value) (λ _. remembered (step slots i value 0 none) me value) current.live
+      (subst (λ (j : ℕ). Allows (Rule allows reach me.0.layout) slots id me j (λ _. value) (λ _. remembered (step slots j value 0 none) me value)) (sym at)
+      (λ s r h there less. let a = memo_store_own place value (memo_store place value) current small (inr may) s r h there less in
+      (a.0, a.1, a.2, a.3, (a.4.0, λ other e. subst (λ p. Memoes me.0 a.0 (memo_store p value)) (same_place me.0.layout place other e) a.4.1))))
+
+  pub memo_clears : (l : Layout) (i place : ℕ) → IsCurrent me.0 → i ≡ memo_at me.0.layout place → place < me.0.layout.memo
+      → Allows (Rule allows reach l) slots id me i (λ _. 0) (λ _. cleared (step slots i 0 0 none) me 0)
+  memo_clears l i place current at small = at_layout l slots id i me (λ _. 0) (λ _. cleared (step slots i 0 0 none) me 0) current.live
+      (subst (λ (j : ℕ). Allows (Rule allows reach me.0.layout) slots id me j (λ _. 0) (λ _. cleared (step slots j 0 0 none) me 0)) (sym at)
+      (λ s r h there less. let a = memo_store_own place 0 (memo_clear place) current small (inl refl) s r h there less in
+      (a.0, a.1, a.2, a.3, (a.4.0, λ other e. subst (λ p. Memoes me.0 a.0 (memo_clear p)) (same_place me.0.layout place other e) a.4.1))))
 
 -- ---- splitting and meeting
 
@@ -339,8 +445,8 @@ owner_out low high new owner row out = dite (dec_le low row)
     (λ from. dite_yes (dec_le low row) _ _ from ∙ dite_no (dec_lt row high) _ _ (out from))
     (λ not_from. dite_no (dec_le low row) _ _ not_from)
 
-module _ {S : Type 0} (l : Layout) (id : ℕ) where
-  pub splits : (v : View) (amount : ℕ) → v.live ≡ true → amount + length v.owned.made ≤ v.owned.quota → Splits {S = S} (Rule l) id v (left_of amount v) (right_of amount v)
+module _ {S : Type 0} {allows : Relation} {reach : Reach} (l : Layout) (id : ℕ) where
+  pub splits : (v : View) (amount : ℕ) → v.live ≡ true → amount + length v.owned.made ≤ v.owned.quota → Splits {S = S} (Rule allows reach l) id v (left_of amount v) (right_of amount v)
   splits v amount live fits s r at =
       let k = r.knows id v at live in
       let o = r.owns id v at live in
@@ -352,6 +458,7 @@ module _ {S : Type 0} (l : Layout) (id : ℕ) where
       let fresh : length (set s.views id (left_of amount v)) ≡ new = length-set s.views id (left_of amount v) in
       record {
         table = r.table;
+        memo = r.memo;
         owner = owner;
         knows = λ seat w h lives. ⊎_elim
             (λ (e : get_elem? (set s.views id (left_of amount v)) seat ≡ some w). ⊎_elim
@@ -393,7 +500,7 @@ module _ {S : Type 0} (l : Layout) (id : ℕ) where
             (at_last_or (set s.views id (left_of amount v)) (right_of amount v) w seat h);
       }
 
-  pub joins : (v : View) (other : ℕ) (w : View) → v.live ≡ true → w.live ≡ true → Joins {S = S} (Rule l) id v other w (both v w) spent
+  pub joins : (v : View) (other : ℕ) (w : View) → v.live ≡ true → w.live ≡ true → Joins {S = S} (Rule allows reach l) id v other w (both v w) spent
   joins v other w live lives s r at apart there =
       let k = r.knows id v at live in
       let o = r.owns id v at live in
@@ -406,6 +513,7 @@ module _ {S : Type 0} (l : Layout) (id : ℕ) where
       (at_set (set s.views id (both v w)) other seat spent x h) in
       record {
         table = r.table;
+        memo = r.memo;
         owner = r.owner;
         knows = λ seat x h l_x. ⊎_elim
             (λ (t : (seat ≡ id) × (both v w ≡ x)). subst (Knows l s.words) t.1 (record {
@@ -438,12 +546,12 @@ IsTable-zeros l = record {
   once = λ one other row h. let e : 0 ≡ suc row = sym (zeros l one) ∙ h.1 in absurd (omega (arith, e));
   standing = λ row h. let e : 0 ≡ suc row = sym (zeros l h.0) ∙ h.1.1 in absurd (omega (arith, e));
   reached = λ place row h. let e : 0 ≡ suc row = sym (zeros l place) ∙ h.1 in absurd (omega (arith, e));
-  unused = λ place _. zeros l (memo_at l place);
 }
 
-pub opens : {S : Type 0} (l : Layout) → Rule l (opening {S = S} (replicate (word_count l) 0) [] (opening_view l))
+pub opens : {S : Type 0} {allows : Relation} {reach : Reach} (l : Layout) → Rule allows reach l (opening {S = S} (replicate (word_count l) 0) [] (opening_view l))
 opens l = record {
   table = IsTable-zeros l;
+  memo = λ place _. inl (zeros l (memo_at l place));
   owner = λ _. 0;
   knows = λ seat v h live. only seat v h (λ _ w. Knows l (replicate (word_count l) 0) w) (record {
     layout = refl;

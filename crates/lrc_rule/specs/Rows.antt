@@ -4,7 +4,7 @@ use Rattle.std.specs.Int.{cast_unsigned, cast_signed, w64}
 use Rattle.lrc_store.specs.Cells.{CellTree, nil, number, pair}
 use Rattle.lrc_rule.specs.declared.layout.Content.{Content}
 use Rattle.lrc_rule.specs.declared.layout.Layout.{Layout}
-use Rattle.lrc_rule.specs.Layout.{word_count, bucket_at, part_at, memo_at}
+use Rattle.lrc_rule.specs.Layout.{word_count, bucket_at, part_at}
 use Rattle.lrc_rule.specs.Home.{place_on}
 
 abbrev pub bucket : Layout → List ℕ → ℕ → ℕ
@@ -77,7 +77,6 @@ IsPassed l words c steps = (i : ℕ) → i < steps → IsOther l words c (place_
 --   once       no row is named by two buckets
 --   standing   a published row holds a cell whose sides are in published rows, with the cell's depth
 --   reached    a published row is on the way from the home of its content, behind full buckets of other contents
---   unused     the memo words are 0
 pub record IsTable (l : Layout) (words : List ℕ) : Type 0 where
   pub whole : length words ≡ word_count l
   pub within : (place : ℕ) → place < l.buckets → bucket l words place ≤ l.rows
@@ -85,7 +84,6 @@ pub record IsTable (l : Layout) (words : List ℕ) : Type 0 where
   pub standing : (row : ℕ) → IsPublished l words row → (cell : CellTree) × Stands l words cell (suc row)
   pub reached : (place row : ℕ) → Names l words place row →
       (steps : ℕ) × (steps < l.buckets) × (place ≡ place_on l (content l words row) steps) × IsPassed l words (content l words row) steps
-  pub unused : (place : ℕ) → place < l.memo → slice_index words (memo_at l place) ≡ 0
 
 -- full buckets and published rows stay as they are
 pub record Grows (l : Layout) (before after : List ℕ) : Type 0 where

@@ -8,15 +8,18 @@ use Rattle.lrc_store.specs.Cells.{CellTree, coded_cell}
 use Rattle.lrc_rule.specs.declared.layout.Layout.{Layout}
 use Rattle.lrc_rule.specs.Layout.{word_count}
 use Rattle.lrc_rule.specs.Rows.{IsTable, Grows, Stands, IsPublished, part}
+use Rattle.lrc_rule.specs.Memo.{Relation, Reach, IsMemo, MemoStep, coded_memo_step}
 
 -- What a pass has learned.
---   past    the words as they were at its last step, and for a pass that others joined, at theirs
---   draft   the words of its next row, as far as it stored them
---   notes   the cells that it found absent, each noted at the step that read the empty bucket
+--   past         the words as they were at its last step, and for a pass that others joined, at theirs
+--   draft        the words of its next row, as far as it stored them
+--   notes        the cells that it found absent, each noted at the step that read the empty bucket
+--   memo_steps   its steps on memo words, in order
 pub record Learned : Type 0 where
   pub past : List (List ℕ)
   pub draft : List ℕ
   pub notes : List CellTree
+  pub memo_steps : List MemoStep
 
 -- What a pass owns: a range of rows, of which it published the first, with the cells of these.
 pub record Owned : Type 0 where
@@ -73,39 +76,40 @@ pub record Owns (l : Layout) (words : List ℕ) (owner : ℕ → ℕ) (seat : �
   pub own : (row : ℕ) → o.from ≤ row → row < o.from + o.quota → owner row ≡ seat
   pub unmade : (row : ℕ) → o.from + length o.made ≤ row → row < o.from + o.quota → ¬ IsPublished l words row
 
--- what holds between any two steps: of the words, and of each pass that is live, where each row has one owner
-pub record Rule {S : Type 0} (l : Layout) (s : State S View) : Type 0 where
+-- what holds between any two steps: of the words, of the memo words by a meaning that never changes, and of each pass that is live, where each row has one owner
+pub record Rule {S : Type 0} (allows : Relation) (reach : Reach) (l : Layout) (s : State S View) : Type 0 where
   pub table : IsTable l s.words
+  pub memo : IsMemo allows reach l s.words
   pub owner : ℕ → ℕ
   pub knows : (seat : ℕ) (v : View) → get_elem? s.views seat ≡ some v → v.live ≡ true → Knows l s.words v
   pub owns : (seat : ℕ) (v : View) → get_elem? s.views seat ≡ some v → v.live ≡ true → Owns l s.words owner seat v.owned
 
 -- the pass of a new table, whose words are 0: it owns all rows
 abbrev pub opening_view : Layout → View
-opening_view l = record { live = true; layout = l; learned = record { past = replicate (word_count l) 0 ∷ []; draft = []; notes = [] }; owned = record { from = 0; quota = l.rows; made = [] } }
+opening_view l = record { live = true; layout = l; learned = record { past = replicate (word_count l) 0 ∷ []; draft = []; notes = []; memo_steps = [] }; owned = record { from = 0; quota = l.rows; made = [] } }
 
 -- a pass that was joined away
 abbrev pub spent : View
 spent = record {
   live = false;
   layout = record { buckets = 0; rows = 0; memo = 0 };
-  learned = record { past = []; draft = []; notes = [] };
+  learned = record { past = []; draft = []; notes = []; memo_steps = [] };
   owned = record { from = 0; quota = 0; made = [] };
 }
 
 -- a view is stored as the tuple of its parts
 abbrev Parts : Type 0
-Parts = Bool × ((ℕ × (ℕ × ℕ)) × ((List (List ℕ) × (List ℕ × List CellTree)) × (ℕ × (ℕ × List CellTree))))
+Parts = Bool × ((ℕ × (ℕ × ℕ)) × ((List (List ℕ) × (List ℕ × (List CellTree × List MemoStep))) × (ℕ × (ℕ × List CellTree))))
 
 abbrev pub coded_view : Coded View
 coded_view =
     code_by Parts
-    (coded× coded_bool (coded× (coded× coded_ℕ (coded× coded_ℕ coded_ℕ)) (coded× (coded× (coded_list (coded_list coded_ℕ)) (coded× (coded_list coded_ℕ) (coded_list coded_cell))) (coded× coded_ℕ (coded× coded_ℕ (coded_list coded_cell))))))
-    (λ v. (v.live, ((v.layout.buckets, (v.layout.rows, v.layout.memo)), ((v.learned.past, (v.learned.draft, v.learned.notes)), (v.owned.from, (v.owned.quota, v.owned.made))))))
+    (coded× coded_bool (coded× (coded× coded_ℕ (coded× coded_ℕ coded_ℕ)) (coded× (coded× (coded_list (coded_list coded_ℕ)) (coded× (coded_list coded_ℕ) (coded× (coded_list coded_cell) (coded_list coded_memo_step)))) (coded× coded_ℕ (coded× coded_ℕ (coded_list coded_cell))))))
+    (λ v. (v.live, ((v.layout.buckets, (v.layout.rows, v.layout.memo)), ((v.learned.past, (v.learned.draft, (v.learned.notes, v.learned.memo_steps))), (v.owned.from, (v.owned.quota, v.owned.made))))))
     (λ p. record {
       live = p.0;
       layout = record { buckets = p.1.0.0; rows = p.1.0.1.0; memo = p.1.0.1.1 };
-      learned = record { past = p.1.1.0.0; draft = p.1.1.0.1.0; notes = p.1.1.0.1.1 };
+      learned = record { past = p.1.1.0.0; draft = p.1.1.0.1.0; notes = p.1.1.0.1.1.0; memo_steps = p.1.1.0.1.1.1 };
       owned = record { from = p.1.1.1.0; quota = p.1.1.1.1.0; made = p.1.1.1.1.1 };
     })
     (λ _. refl)

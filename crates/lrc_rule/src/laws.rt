@@ -6,11 +6,14 @@ ghost use Rattle.atomic_table.specs.Table.{Me, Allows, Splits, Joins, step, open
 ghost use Rattle.lrc_store.specs.Cells.{CellTree};
 ghost use Rattle.lrc_rule.specs.declared.layout.Layout.{Layout};
 ghost use Rattle.lrc_rule.specs.declared.layout.Content.{Content};
-ghost use Rattle.lrc_rule.specs.Layout.{word_count, part_at};
+ghost use Rattle.lrc_rule.specs.Layout.{word_count, part_at, memo_at};
 ghost use Rattle.lrc_rule.specs.Home.{place_on};
 ghost use Rattle.lrc_rule.specs.Rows.{IsTable, Stands, Grows, Fits, IsPassed, IsAbsent, IsPublished, bucket, content, depth};
+ghost use Rattle.lrc_rule.specs.Memo.{IsMemoPair};
 ghost use Rattle.lrc_rule.specs.Views.{View, Rule, now, next, opening_view, spent};
-ghost use Rattle.lrc_rule.specs.Steps.{IsCurrent, IsDraftOf, loaded, sought, stored, exchanged, left_of, right_of, both};
+ghost use Rattle.lrc_rule.specs.Steps.{IsCurrent, IsDraftOf, loaded, sought, stored, exchanged, recalled, remembered, cleared, left_of, right_of, both};
+
+use lrc_store::Meaning;
 
 /// Published rows with equal contents are one row, and so a cell has one handle.
 pub fn equal_rows_are_one()
@@ -37,30 +40,41 @@ pub fn depths_are_bounded()
 {}
 
 /// The rule is true of a new table, all of whose words are 0.
-pub fn a_new_table_meets_the_rule()
-    ensures { (l : Layout) → Rule l (opening {S = Unit {0}} (replicate (word_count l) 0) [] (opening_view l)) }
+pub fn a_new_table_meets_the_rule<M: Meaning>()
+    ensures { (meaning : M) (l : Layout) → Rule (M.allows meaning) (M.reach meaning) l (opening {S = Unit {0}} (replicate (word_count l) 0) [] (opening_view l)) }
 {}
 
-/// A load of any word keeps the rule, also where a cell is sought and noted as absent.
-pub fn loads_keep_the_rule()
-    ensures load { (l : Layout) (slots id : ℕ) (me : Me (Unit {0}) View) (word : ℕ) → me.0.live ≡ true → Allows (Rule l) slots id me word (λ n. n) (loaded (step slots word 0 0 none) me) }
-    ensures seek { (l : Layout) (slots id : ℕ) (me : Me (Unit {0}) View) (word : ℕ) (cell : CellTree) (c : Content) (steps : ℕ) → IsCurrent me.0 → word ≡ place_on me.0.layout c steps → Fits me.0.layout (now me.0) cell c
-        → IsPassed me.0.layout (now me.0) c steps → Allows (Rule l) slots id me word (λ n. n) (sought cell (step slots word 0 0 none) me) }
+/// A load of any word but a memo word keeps the rule, also where a cell is sought and noted as absent.
+pub fn loads_keep_the_rule<M: Meaning>()
+    ensures load { (meaning : M) (l : Layout) (slots id : ℕ) (me : Me (Unit {0}) View) (word : ℕ) → me.0.live ≡ true → word < memo_at me.0.layout 0 → Allows (Rule (M.allows meaning) (M.reach meaning) l) slots id me word (λ n. n) (loaded (step slots word 0 0 none) me) }
+    ensures seek { (meaning : M) (l : Layout) (slots id : ℕ) (me : Me (Unit {0}) View) (word : ℕ) (cell : CellTree) (c : Content) (steps : ℕ) → IsCurrent me.0 → word ≡ place_on me.0.layout c steps → word < me.0.layout.buckets → Fits me.0.layout (now me.0) cell c
+        → IsPassed me.0.layout (now me.0) c steps → Allows (Rule (M.allows meaning) (M.reach meaning) l) slots id me word (λ n. n) (sought cell (step slots word 0 0 none) me) }
 {}
 
 /// A pass may store the next word of its draft, and then publish the whole draft where the places
 /// before are passed.
-pub fn publishing_keeps_the_rule()
-    ensures draft { (l : Layout) (slots id : ℕ) (me : Me (Unit {0}) View) (word k value : ℕ) → IsCurrent me.0 → word ≡ part_at me.0.layout (next me.0) k → k < 4 → k ≤ length me.0.learned.draft → length me.0.owned.made < me.0.owned.quota
-        → Allows (Rule l) slots id me word (λ _. value) (λ _. stored (step slots word value 0 none) me value) }
-    ensures publish { (l : Layout) (slots id : ℕ) (me : Me (Unit {0}) View) (word new : ℕ) (cell : CellTree) (steps : ℕ) → IsCurrent me.0 → (d : IsDraftOf me.0.layout (now me.0) me.0.learned.draft cell)
+pub fn publishing_keeps_the_rule<M: Meaning>()
+    ensures draft { (meaning : M) (l : Layout) (slots id : ℕ) (me : Me (Unit {0}) View) (word k value : ℕ) → IsCurrent me.0 → word ≡ part_at me.0.layout (next me.0) k → k < 4 → k ≤ length me.0.learned.draft → length me.0.owned.made < me.0.owned.quota
+        → Allows (Rule (M.allows meaning) (M.reach meaning) l) slots id me word (λ _. value) (λ _. stored (step slots word value 0 none) me value) }
+    ensures publish { (meaning : M) (l : Layout) (slots id : ℕ) (me : Me (Unit {0}) View) (word new : ℕ) (cell : CellTree) (steps : ℕ) → IsCurrent me.0 → (d : IsDraftOf me.0.layout (now me.0) me.0.learned.draft cell)
         → word ≡ place_on me.0.layout d.content steps → steps < me.0.layout.buckets → word < me.0.layout.buckets → IsPassed me.0.layout (now me.0) d.content steps → length me.0.owned.made < me.0.owned.quota → new ≡ suc (next me.0)
-        → Allows (Rule l) slots id me word (λ n. either (n == 0) new n) (exchanged (step slots word 0 new none) me) }
+        → Allows (Rule (M.allows meaning) (M.reach meaning) l) slots id me word (λ n. either (n == 0) new n) (exchanged (step slots word 0 new none) me) }
+{}
+
+/// A memo word may be loaded, a pair that the meaning allows and whose reach is in the table may be
+/// stored there, and 0 may.
+pub fn memo_steps_keep_the_rule<M: Meaning>()
+    ensures load { (meaning : M) (l : Layout) (slots id : ℕ) (me : Me (Unit {0}) View) (word place : ℕ) → me.0.live ≡ true → word ≡ memo_at me.0.layout place → place < me.0.layout.memo
+        → Allows (Rule (M.allows meaning) (M.reach meaning) l) slots id me word (λ n. n) (recalled (M.allows meaning) (M.reach meaning) (step slots word 0 0 none) me) }
+    ensures store { (meaning : M) (l : Layout) (slots id : ℕ) (me : Me (Unit {0}) View) (word place value : ℕ) → IsCurrent me.0 → word ≡ memo_at me.0.layout place → place < me.0.layout.memo → IsMemoPair (M.allows meaning) (M.reach meaning) me.0.layout (now me.0) value
+        → Allows (Rule (M.allows meaning) (M.reach meaning) l) slots id me word (λ _. value) (λ _. remembered (step slots word value 0 none) me value) }
+    ensures clear { (meaning : M) (l : Layout) (slots id : ℕ) (me : Me (Unit {0}) View) (word place : ℕ) → IsCurrent me.0 → word ≡ memo_at me.0.layout place → place < me.0.layout.memo
+        → Allows (Rule (M.allows meaning) (M.reach meaning) l) slots id me word (λ _. 0) (λ _. cleared (step slots word 0 0 none) me 0) }
 {}
 
 /// A pass may be cut in two, with at most the rows that are not used for the second, and may take in
 /// another.
-pub fn splitting_and_meeting_keep_the_rule()
-    ensures split { (l : Layout) (id : ℕ) (v : View) (amount : ℕ) → v.live ≡ true → amount + length v.owned.made ≤ v.owned.quota → Splits {S = Unit {0}} (Rule l) id v (left_of amount v) (right_of amount v) }
-    ensures join { (l : Layout) (id : ℕ) (v : View) (other : ℕ) (w : View) → v.live ≡ true → w.live ≡ true → Joins {S = Unit {0}} (Rule l) id v other w (both v w) spent }
+pub fn splitting_and_meeting_keep_the_rule<M: Meaning>()
+    ensures split { (meaning : M) (l : Layout) (id : ℕ) (v : View) (amount : ℕ) → v.live ≡ true → amount + length v.owned.made ≤ v.owned.quota → Splits {S = Unit {0}} (Rule (M.allows meaning) (M.reach meaning) l) id v (left_of amount v) (right_of amount v) }
+    ensures join { (meaning : M) (l : Layout) (id : ℕ) (v : View) (other : ℕ) (w : View) → v.live ≡ true → w.live ≡ true → Joins {S = Unit {0}} (Rule (M.allows meaning) (M.reach meaning) l) id v other w (both v w) spent }
 {}

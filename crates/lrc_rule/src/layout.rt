@@ -1,5 +1,5 @@
 ghost use Rattle.std.specs.Prelude.{◌≡◌, ◌+◌, ◌*◌, ◌<◌, ◌≤◌, ◌^◌};
-ghost use Rattle.lrc_rule.specs.Layout.{IsLayout, word_count, bucket_at, part_at};
+ghost use Rattle.lrc_rule.specs.Layout.{IsLayout, word_count, bucket_at, part_at, memo_at};
 
 /// How many words of each kind a table has.
 #[derive(Debug, Clone, Copy, PartialEq, Eq)]
@@ -61,8 +61,18 @@ impl Layout {
         requires row { row < self.rows }
         requires part { part < 4 }
         ensures index { result ≡ part_at self row part }
-        ensures within { result < word_count self }
+        ensures within { result < memo_at self 0 }
     {
         self.buckets as usize + (4 * row as usize + part)
+    }
+
+    /// Which word is the memo word at a place.
+    pub fn memo_word(self, place: u32) -> usize
+        requires layout { IsLayout self }
+        requires place { place < self.memo }
+        ensures index { result ≡ memo_at self place }
+        ensures within { result < word_count self }
+    {
+        self.buckets as usize + 4 * self.rows as usize + place as usize
     }
 }

@@ -1,8 +1,10 @@
 //! What each step tells the pass that makes it.
 ghost use Rattle.std.specs.Prelude.{ℕ};
+ghost use Rattle.std.specs.Prelude.{[]};
 ghost use Rattle.lrc_store.specs.Cells.{CellTree, nil};
+ghost use Rattle.lrc_rule.specs.Memo.{Relation, Reach};
 ghost use Rattle.lrc_rule.specs.Views.{spent};
-ghost use Rattle.lrc_rule.specs.Steps.{loaded, sought, stored, exchanged, left_of, right_of, both};
+ghost use Rattle.lrc_rule.specs.Steps.{loaded, sought, stored, exchanged, recalled, remembered, cleared, left_of, right_of, both};
 
 use crate::views::Viewed;
 use atomic_table::{Join, Play, Split};
@@ -54,6 +56,42 @@ pub struct Publish;
 
 impl Play<(), Viewed> for Publish {
     ghost then = { exchanged };
+}
+
+/// What the memo words of a table mean, which the proof of a call picks.
+pub trait Sense {
+    ghost allows: { Relation };
+
+    ghost reach: { Reach };
+}
+
+impl Sense for Brand {
+    ghost allows = { λ _ _. ⊥ };
+
+    ghost reach = { λ _ _. [] };
+}
+
+/// Loads a memo word.
+pub struct LoadMemo<W> {
+    sense: PhantomData<W>,
+}
+
+impl<W: Sense> Play<(), Viewed> for LoadMemo<W> {
+    ghost then = { recalled W.allows W.reach };
+}
+
+/// Stores a pair of a call and its result in a memo word.
+pub struct StoreMemo;
+
+impl Play<(), Viewed> for StoreMemo {
+    ghost then = { remembered };
+}
+
+/// Stores 0 in a memo word.
+pub struct ClearMemo;
+
+impl Play<(), Viewed> for ClearMemo {
+    ghost then = { cleared };
 }
 
 /// Gives the last rows of a pass to a new pass.

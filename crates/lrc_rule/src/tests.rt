@@ -14,7 +14,7 @@ fn homes_are_those_of_the_format(rt: HostRuntime) -> Result<(), Fail> {
 fn the_smallest_layout(rt: HostRuntime) -> Result<(), Fail> {
     let layout = Layout::of(1, 1);
     assert!(rt; layout.buckets == 2 && layout.size() == 7);
-    assert!(rt; layout.bucket(1) == 1 && layout.part(0, 3) == 5);
+    assert!(rt; layout.bucket(1) == 1 && layout.part(0, 3) == 5 && layout.memo_word(0) == 6);
     assert!(rt; Layout::of(9, 1).buckets == 32 && Layout::of(8, 1).buckets == 16);
     Ok(())
 }

@@ -33,7 +33,7 @@ pub struct Rules<M> {
 impl<M: Meaning> TableRule<(), Viewed, Key<M>> for Rules<M> {
     ghost use Rattle.lrc_rule.specs.Views.{Rule, opening_view};
 
-    ghost holds = { λ key. Rule key.layout };
+    ghost holds = { λ key. Rule (M.allows key.meaning) (M.reach key.meaning) key.layout };
 
     ghost first = { λ key. opening_view key.layout };
 }

@@ -16,7 +16,7 @@ pub grown-from : (v w : View) → IsCurrent v → Follows v w → Grows v.layout
 grown-from v w c f = let g = subst (λ past. AllGrow v.layout past (now w)) c.past f.grown in g.0
 
 pub Follows-refl : (v : View) → IsCurrent v → Follows v v
-Follows-refl v c = record { layout = refl; grown = subst (λ past. AllGrow v.layout past (now v)) (sym c.past) (Grows-refl v.layout (now v), tt); current = c; from = refl; quota = refl }
+Follows-refl v c = record { layout = refl; grown = subst (λ past. AllGrow v.layout past (now v)) (sym c.past) (Grows-refl v.layout (now v), tt); current = c; from = refl; quota = refl; memo_steps = refl }
 
 pub Follows-trans : (u v w : View) → Follows u v → Follows v w → Follows u w
 Follows-trans u v w f g = record {
@@ -25,6 +25,7 @@ Follows-trans u v w f g = record {
   current = g.current;
   from = g.from ∙ f.from;
   quota = g.quota ∙ f.quota;
+  memo_steps = g.memo_steps ∙ f.memo_steps;
 }
 
 pub Reads-refl : (p : PassView) → IsCurrent p.view → Reads p p

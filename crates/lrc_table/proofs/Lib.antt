@@ -3,3 +3,4 @@ pub mod Follow
 pub mod Probing
 pub mod Standings
 pub mod Stores
+pub mod Recalling

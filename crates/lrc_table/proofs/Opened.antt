@@ -1,10 +1,13 @@
 -- What callers see of a pass and a table, and what is inside.
-use Rattle.std.proofs.Common.{◌≡◌, ℕ, zero, suc, refl, ◌+◌, ◌^◌, ◌<◌, List, [], ◌∷◌, length, get_or, sym, ◌∙◌, ap, subst, arith, length-append}
+use Rattle.std.specs.Prelude.{Contains}
+use Rattle.std.proofs.Common.{◌≡◌, inl, inr, ⊎_elim, ℕ, zero, suc, refl, ◌+◌, ◌^◌, ◌<◌, List, [], ◌∷◌, length, get_or, sym, ◌∙◌, ap, subst, arith, length-append}
 use Rattle.lrc_rule.specs.declared.layout.Layout.{Layout}
-use Rattle.lrc_rule.specs.Layout.{IsLayout, word_count}
+use Rattle.lrc_store.specs.Cells.{CellTree}
+use Rattle.lrc_rule.specs.Layout.{IsLayout, word_count, memo_at}
+use Rattle.lrc_rule.specs.Memo.{Relation, Reach, IsMemoPair, IsMemoWord, MemoStep}
 use Rattle.lrc_rule.specs.Rows.{IsTable}
 use Rattle.lrc_rule.specs.Views.{View, now}
-use Rattle.lrc_rule.specs.Steps.{Follows, IsMade, Publishes, Exchanges}
+use Rattle.lrc_rule.specs.Steps.{IsCurrent, Follows, Memoes, noting, IsMade, Publishes, Exchanges}
 use Rattle.lrc_table.specs.Passes.{TableView, PassView, IsOf, IsPass, IsReady}
 
 pub same_id : {M : Type 0} (a b : PassView) (s t : TableView M) → a ≡ b → s ≡ t → IsOf b t → a.table ≡ s.id
@@ -16,8 +19,41 @@ same_layout a b s t e f h = ap (λ (p : PassView). p.view.layout) e ∙ (h.1 ∙
 pub below : {M : Type 0} (s t : TableView M) (n word : ℕ) → n ≡ word_count s.layout → s ≡ t → word < word_count t.layout → word < n
 below s t n word e f h = let g = ap (λ x. word_count x.layout) f in omega (arith, e, g, h)
 
+-- there is a first word, and it is no memo word
 pub some_word : (l : Layout) (n : ℕ) → n ≡ word_count l → IsLayout l → 0 < n
 some_word l n e h = let some = h.some_row in omega (arith, e, some)
+
+pub first_word : (l m : Layout) → l ≡ m → IsLayout m → 0 < memo_at l 0
+first_word l m e h = let some = h.some_row in let rows = ap (λ (x : Layout). x.rows) e in omega (arith, some, rows)
+
+-- what is known of a pass stays, as a step on a memo word is noted
+pub noted-current : (v : View) (entry : MemoStep) → IsCurrent v → IsCurrent (noting v entry)
+noted-current v entry c = record { live = c.live; past = c.past; table = c.table; range = c.range }
+
+pub IsPass-memoes : {S : Type 0} (v w : View) (entry : MemoStep) (carried held : List (ℕ × S)) (first quota count : ℕ) → IsPass v carried first quota count → Memoes v w entry → held ≡ carried → IsPass w held first quota count
+IsPass-memoes v w entry carried held first quota count h m none = let f = m.follows in record {
+  current = f.current;
+  layout = subst IsLayout (sym f.layout) h.layout;
+  none = none ∙ h.none;
+  first_is = f.from ∙ h.first_is;
+  quota_is = f.quota ∙ h.quota_is;
+  count_is = ap length m.made ∙ h.count_is;
+}
+
+-- where the meaning is told in other words, the memo words say the same
+pub IsMemoWord-as : (allows allows' : Relation) (reach reach' : Reach) (l : Layout) (words : List ℕ) (word : ℕ) → ((call outcome : CellTree) → allows call outcome → allows' call outcome) → reach' ≡ reach
+    → IsMemoWord allows reach l words word → IsMemoWord allows' reach' l words word
+IsMemoWord-as allows allows' reach reach' l words word f e h = ⊎_elim inl (λ (p : IsMemoPair allows reach l words word). inr (record {
+  call = p.call;
+  outcome = p.outcome;
+  call_row = p.call_row;
+  outcome_row = p.outcome_row;
+  word_is = p.word_is;
+  call_stands = p.call_stands;
+  outcome_stands = p.outcome_stands;
+  allowed = f p.call p.outcome p.allowed;
+  reached = λ cell c. p.reached cell (subst (λ (r : Reach). Contains (r p.call p.outcome) cell) e c);
+})) h
 
 -- a pass stays a pass where a step made no row
 pub IsPass-follows : {S : Type 0} (v w : View) (carried held : List (ℕ × S)) (first quota count : ℕ) → IsPass v carried first quota count → Follows v w → w.owned.made ≡ v.owned.made → held ≡ carried

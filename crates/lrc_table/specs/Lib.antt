@@ -1,2 +1,3 @@
 pub mod Passes
 pub mod Standings
+pub mod Memo

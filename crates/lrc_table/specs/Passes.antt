@@ -85,6 +85,7 @@ pub record Meets (p other q : PassView) : Type 0 where
   pub current : IsCurrent q.view
   pub draft : q.view.learned.draft ≡ p.view.learned.draft
   pub notes : q.view.learned.notes ≡ p.view.learned.notes
+  pub memo_steps : q.view.learned.memo_steps ≡ p.view.learned.memo_steps
   pub owned : q.view.owned ≡ p.view.owned
 
 -- the notes are those before, and a number of notes of this cell

@@ -22,6 +22,7 @@ impl<M: Meaning> Pass<M> {
         ensures of { IsOf self.new table.now }
         ensures puts { Puts (standing self.old.view) (standing self.new.view) (number value) result }
         ensures noted { IsNoted self.old.view self.new.view (number value) result }
+        ensures memo_steps { self.new.view.learned.memo_steps ≡ self.old.view.learned.memo_steps }
     {
         let _rows = self.published();
         let content = Content {
@@ -52,6 +53,7 @@ impl<M: Meaning> Pass<M> {
         ensures of { IsOf self.new table.now }
         ensures puts { Puts (standing self.old.view) (standing self.new.view) (pair tag (meant (standing self.old.view) left.0) (meant (standing self.old.view) right.0)) result }
         ensures noted { IsNoted self.old.view self.new.view (pair tag (meant (standing self.old.view) left.0) (meant (standing self.old.view) right.0)) result }
+        ensures memo_steps { self.new.view.learned.memo_steps ≡ self.old.view.learned.memo_steps }
     {
         let _rows = self.published();
         let content = Content {
@@ -69,6 +71,7 @@ impl<M: Meaning> Pass<M> {
         ensures of { IsOf self.new table.now }
         ensures shows { Shows (standing self.new.view) result (meant (standing self.old.view) handle.0) }
         ensures reads { Reads (standing self.old.view) (standing self.new.view) }
+        ensures memo_steps { self.new.view.learned.memo_steps ≡ self.old.view.learned.memo_steps }
     {
         let _rows = self.published();
         if handle == Handle::NIL {
@@ -107,6 +110,7 @@ impl<M: Meaning> Pass<M> {
         ensures meets { Keeps (standing other.view) (standing self.new.view) }
         ensures seen { Grows (standing other.view).seen (standing self.new.view).seen }
         ensures notes { self.new.view.learned.notes ≡ self.old.view.learned.notes }
+        ensures memo_steps { self.new.view.learned.memo_steps ≡ self.old.view.learned.memo_steps }
     {
         self.take_in(table, other);
     }

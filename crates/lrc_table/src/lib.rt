@@ -6,6 +6,7 @@
 #![tactic(auto)]
 
 mod calls;
+mod memo;
 mod probe;
 mod table;
 #[cfg(test)]

@@ -1,14 +1,19 @@
 //! The table, its passes, and the steps that a pass makes.
 ghost use Rattle.std.specs.Prelude.{◌≡◌, ℕ, ◌+◌, ◌*◌, ◌<◌, ◌≤◌, ◌^◌, [], length, IfOk};
-ghost use Rattle.lrc_rule.specs.Layout.{IsLayout, word_count};
+ghost use Rattle.lrc_rule.specs.Layout.{IsLayout, memo_at};
+ghost use Rattle.lrc_rule.specs.Memo.{IsMemoPair, IsMemoWord, memo_load, memo_store, memo_clear};
 ghost use Rattle.lrc_rule.specs.Views.{now, next, opening_view};
-ghost use Rattle.lrc_rule.specs.Steps.{IsCurrent, Loads, Notes, Stores, Exchanges, left_of, right_of};
+ghost use Rattle.lrc_rule.specs.Steps.{IsCurrent, Loads, Notes, Stores, Exchanges, Memoes, left_of, right_of};
+ghost use Rattle.lrc_store.specs.Cells.{CellTree};
 ghost use Rattle.lrc_store.specs.Standing.{IsSound};
 ghost use Rattle.lrc_table.specs.Standings.{standing};
 ghost use Rattle.lrc_table.specs.Passes.{IsOf, Reads, IsSought, IsReady, Meets};
 
 use atomic_table::{Seat, Table as Words};
-use lrc_rule::{Amount, Cut, Draft, Key, Layout, Load, Meet, Publish, Rules, Seek, Sought, Viewed};
+use lrc_rule::{
+    Amount, ClearMemo, Cut, Draft, Key, Layout, Load, LoadMemo, Meet, Publish, Rules, Seek, Sense,
+    Sought, StoreMemo, Viewed,
+};
 use lrc_store::{Handle, Meaning};
 use std::alloc::{AllocError, Global};
 use std::marker::{Brand, Model, PhantomData};
@@ -133,10 +138,10 @@ impl<M: Meaning> Pass<M> {
         Handle(self.first + self.count)
     }
 
-    /// Loads a word.
+    /// Loads a word that is no memo word.
     pub(crate) fn load(&mut self, table: &Table<M>, word: usize) -> u64
         requires of { IsOf self.old table.now }
-        requires word { word < word_count table.now.layout }
+        requires word { word < memo_at table.now.layout 0 }
         ensures reads { Reads self.old self.new }
         ensures found { Loads self.old.view self.new.view word result }
     {
@@ -197,6 +202,49 @@ impl<M: Meaning> Pass<M> {
             self.count += 1;
         }
         found
+    }
+
+    /// Loads the memo word at a place.
+    pub(crate) fn load_word<W: Sense>(&mut self, table: &Table<M>, place: u32) -> u64
+        requires of { IsOf self.old table.now }
+        requires place { place < table.now.layout.memo }
+        requires allows { (call outcome : CellTree) → M.allows table.now.meaning call outcome → W.allows call outcome }
+        requires reach { W.reach ≡ M.reach table.now.meaning }
+        ensures table { self.new.table ≡ self.old.table }
+        ensures step { Memoes self.old.view self.new.view (memo_load place result) }
+        ensures word { IsMemoWord W.allows W.reach self.new.view.layout (now self.new.view) result }
+    {
+        table
+            .words
+            .shared
+            .load::<LoadMemo<W>>(&mut self.seat, table.layout.memo_word(place))
+    }
+
+    /// Stores the word of a pair, which the meaning allows, in the memo word at a place.
+    pub(crate) fn store_word(&mut self, table: &Table<M>, place: u32, word: u64)
+        requires of { IsOf self.old table.now }
+        requires place { place < table.now.layout.memo }
+        requires pair { IsMemoPair (M.allows table.now.meaning) (M.reach table.now.meaning) self.old.view.layout (now self.old.view) word }
+        ensures table { self.new.table ≡ self.old.table }
+        ensures step { Memoes self.old.view self.new.view (memo_store place word) }
+    {
+        table
+            .words
+            .shared
+            .store::<StoreMemo>(&mut self.seat, table.layout.memo_word(place), word)
+    }
+
+    /// Stores 0 in the memo word at a place.
+    pub(crate) fn clear_word(&mut self, table: &Table<M>, place: u32)
+        requires of { IsOf self.old table.now }
+        requires place { place < table.now.layout.memo }
+        ensures table { self.new.table ≡ self.old.table }
+        ensures step { Memoes self.old.view self.new.view (memo_clear place) }
+    {
+        table
+            .words
+            .shared
+            .store::<ClearMemo>(&mut self.seat, table.layout.memo_word(place), 0)
     }
 
     /// Gives so many of its last rows to a new pass.

@@ -1,0 +1,41 @@
+-- A store over a pass of a shared table.
+use Rattle.std.specs.Prelude.{ℕ, ◌≡◌, ◌≢◌, ◌<◌, ◌≤◌, ◌^◌, refl}
+use Rattle.std.specs.Coded.{Coded, code_by, coded_ℕ, coded×}
+use Rattle.lrc_store.specs.Standing.{Standing}
+use Rattle.lrc_store.specs.declared.stores.Recall.{Recall}
+use Rattle.lrc_store.specs.declared.stores.Recall.TheVariants as recall
+use Rattle.lrc_rule.specs.Memo.{pair_word}
+use Rattle.lrc_rule.specs.Views.{View}
+use Rattle.lrc_table.specs.Passes.{TableView, PassView, coded_table_view, coded_pass_view}
+use Rattle.lrc_table.specs.Standings.{standing}
+
+-- the pass, its table, and how many recalls found nothing
+pub record Shared (M : Type 0) : Type 0 where
+  pub pass : PassView
+  pub table : TableView M
+  pub missed : ℕ
+
+abbrev pub coded_shared : {M : Type 0} → Coded M → Coded (Shared M)
+coded_shared {M} m =
+    code_by (PassView × (TableView M × ℕ)) (coded× coded_pass_view (coded× (coded_table_view m) coded_ℕ)) (λ s. (s.pass, (s.table, s.missed)))
+    (λ p. record { pass = p.0; table = p.1.0; missed = p.1.1 }) (λ _. refl)
+
+abbrev pub with_missed : Standing → ℕ → Standing
+with_missed s missed = record s { missed = missed }
+
+-- it stands for what its pass does: it tells what is in the table for good, and no memo
+abbrev pub shared_standing : View → ℕ → Standing
+shared_standing v missed = with_missed (standing v) missed
+
+-- the word pairs the call with no result
+abbrev pub NamesNot : ℕ → ℕ → Type 0
+NamesNot call word = (outcome : ℕ) → 1 ≤ outcome → outcome < 2 ^ 32 → word ≢ pair_word call outcome
+
+-- the word pairs the call with this result
+abbrev pub Names : ℕ → ℕ → ℕ → Type 0
+Names call outcome word = (outcome < 2 ^ 32) × (word ≡ pair_word call outcome) × (word ≢ 0)
+
+-- what a recall answers of the word at the call's place: the result that it is paired with there, or else the word
+abbrev pub Answers : ℕ → ℕ → Recall → Type 0
+Answers call word (recall.Found handle) = Names call handle.0 word
+Answers call word (recall.Missed found) = (found ≡ word) × NamesNot call word

@@ -1,0 +1,9 @@
+//! A store over a table that threads share: the cells of a pass, and memo words that any thread may
+//! overwrite at any moment.
+#![tactic(auto)]
+
+mod shared;
+#[cfg(test)]
+mod tests;
+
+pub use shared::SharedStore;

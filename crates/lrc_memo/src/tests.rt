@@ -1,0 +1,104 @@
+ghost use Rattle.std.specs.Prelude.{◌≡◌, IfOk, IsTrue};
+ghost use Rattle.lrc_store.specs.Cells.{number};
+ghost use Rattle.lrc_store.specs.Standing.{Stands, IsKnown};
+ghost use Rattle.lrc_store.specs.Words.{Keeps};
+ghost use Rattle.lrc_memo.specs.Shared.{shared_standing};
+
+use crate::SharedStore;
+use lrc_store::{Full, Handle, Meaning, Recall, Store};
+use lrc_table::Table;
+use std::test::Fail;
+
+/// A meaning that gives each call's own cell, but for nil, as its result.
+#[derive(Drop)]
+struct OwnCell;
+
+impl Meaning for OwnCell {
+    ghost use Rattle.std.specs.Prelude.{[], ◌≡◌, ◌≢◌};
+    ghost use Rattle.lrc_store.specs.Cells.{nil};
+    ghost use Rattle.std.proofs.Common.{sym, ◌∙◌, arith};
+
+    ghost allows = { λ _ call outcome. (call ≡ outcome) × (call ≢ nil) };
+
+    ghost reach = { λ _ _ _. [] };
+
+    ghost single = { λ _ call one other h k. sym h.0 ∙ k.0 };
+
+    ghost filled = { λ _ call outcome h. (h.1, λ e. h.1 (h.0 ∙ e)) };
+
+    ghost closed = { λ _ call outcome h. (λ c. omega (arith, c.1), λ cell c. absurd (omega (arith, c.1))) };
+}
+
+/// Whether the pair of 1 and 1, put twice, has one handle, over any store.
+fn is_shared<S: Store>(store: &mut S) -> Result<bool, Full>
+    ensures { IfOk result (λ shared. IsTrue shared) }
+{
+    let one = store.int(1)?;
+    let first = store.cell(3, one, one)?;
+    let again = store.cell(3, one, one)?;
+    Ok(store.same(first, again))
+}
+
+/// The handles of two numbers, over any store.
+fn two_numbers<S: Store>(store: &mut S, one: i64, other: i64) -> Result<(Handle, Handle), Full>
+    ensures one { IfOk result (λ handles. Stands (S.state store.new) handles.0.0 (number one)) }
+    ensures other { IfOk result (λ handles. Stands (S.state store.new) handles.1.0 (number other)) }
+{
+    let first = store.int(one)?;
+    let second = store.int(other)?;
+    Ok((first, second))
+}
+
+/// Remembers a number as its own result.
+fn remember_itself(store: &mut SharedStore<OwnCell>, call: Handle, value: i64)
+    requires { Stands (shared_standing store.old.pass.view store.old.missed) call.0 (number value) }
+    ensures { Keeps (shared_standing store.old.pass.view store.old.missed) (shared_standing store.new.pass.view store.new.missed) }
+{
+    store.remember(call, call);
+}
+
+fn is_found(answer: Recall, handle: Handle) -> bool {
+    match answer {
+        Recall::Found(found) => found == handle,
+        Recall::Missed(_) => false,
+    }
+}
+
+fn is_missed(answer: Recall, word: u64) -> bool {
+    match answer {
+        Recall::Found(_) => false,
+        Recall::Missed(missed) => missed == word,
+    }
+}
+
+#[test]
+fn generic_code_runs_over_it(rt: HostRuntime) -> Result<(), Fail> {
+    let (table, pass) = Table::new(rt.alloc(), OwnCell, 1, 2, 3)?;
+    let mut store = SharedStore::new(&table, pass);
+    let shared = is_shared(&mut store).is_ok_and(|shared| shared);
+    assert!(rt; shared);
+    let refused = store.int(2).is_err();
+    assert!(rt; refused && store.published() == 2);
+    let pass = store.into_pass();
+    assert!(rt; pass.published() == 2 && table.memo_words() == 3);
+    Ok(())
+}
+
+#[test]
+fn a_memo_word_is_overwritten(rt: HostRuntime) -> Result<(), Fail> {
+    let (table, pass) = Table::new(rt.alloc(), OwnCell, 1, 2, 1)?;
+    let mut store = SharedStore::new(&table, pass);
+    let Ok((five, six)) = two_numbers(&mut store, 5, 6) else {
+        panic!(rt; "there are rows for two cells")
+    };
+    assert!(rt; five == Handle(1) && six == Handle(2));
+    remember_itself(&mut store, five, 5);
+    let found = is_found(store.recall(five), five);
+    remember_itself(&mut store, six, 6);
+    let overwritten = is_missed(store.recall(five), 8_589_934_594);
+    store.evict(7);
+    let forgotten = is_missed(store.recall(six), 0);
+    assert!(rt; found && overwritten && forgotten);
+    assert_eq!(rt; store.missed(), 2);
+    Ok(())
+}
