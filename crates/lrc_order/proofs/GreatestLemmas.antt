@@ -67,7 +67,7 @@ module _ (g : Grammar) (s k : ℕ) where
   pub turn_within : (x : ℕ) → HasTurn g s k x → x < length (attrs_of_sort g.sorts s)
   turn_within x h = slice_get_within (attrs_of_sort g.sorts s) x h.attr h.is_there
 
-decide_pair : (r : Pairs) (x y : ℕ) (b : Bool) → paired r x y ≡ b → Has r x y ⊎ (¬ Has r x y)
+pub decide_pair : (r : Pairs) (x y : ℕ) (b : Bool) → paired r x y ≡ b → Has r x y ⊎ (¬ Has r x y)
 decide_pair r x y true e = inl e
 decide_pair r x y false e = inr (λ h. true≢false (sym h ∙ e))
 

@@ -10,3 +10,5 @@ pub mod BridgeLemmas
 pub mod CycleLemmas
 pub mod TurnLemmas
 pub mod NumberedLemmas
+pub mod LastLemmas
+pub mod VisitLemmas

@@ -5,14 +5,14 @@ use Rattle.lrc_graph.specs.Pairs.{Pairs, paired, Has}
 use Rattle.lrc_ordered.specs.Tables.{table_at, HasAt, GatheredAll}
 use Rattle.lrc_ordered.specs.Missing.{sum_below, missing_in, missing}
 
-sum_le : (f g : ℕ → ℕ) (n : ℕ) → ((k : ℕ) → k < n → f k ≤ g k) → sum_below f n ≤ sum_below g n
+pub sum_le : (f g : ℕ → ℕ) (n : ℕ) → ((k : ℕ) → k < n → f k ≤ g k) → sum_below f n ≤ sum_below g n
 sum_le f g zero le = le_refl 0
 sum_le f g (suc n) le =
     let rest = sum_le f g n (λ k h. le k (omega arith)) in
     let last = le n (omega arith) in
     omega arith
 
-sum_lt : (f g : ℕ → ℕ) (n j : ℕ) → ((k : ℕ) → k < n → f k ≤ g k) → j < n → f j < g j → sum_below f n < sum_below g n
+pub sum_lt : (f g : ℕ → ℕ) (n j : ℕ) → ((k : ℕ) → k < n → f k ≤ g k) → j < n → f j < g j → sum_below f n < sum_below g n
 sum_lt f g zero j le h less = absurd (omega arith)
 sum_lt f g (suc n) j le h less =
     elim (cases_eq j n) [

@@ -16,7 +16,7 @@ use Rattle.lrc_order.proofs.GreatestLemmas.{greatest_turn, turn_greatest, turn_w
 use Rattle.lrc_ordered.specs.Turns.{IsOf, IsNext, IsFilled}
 use Rattle.lrc_ordered.specs.Numbered.{AreNumbered}
 
-slice_at : {X : Type 0} (xs : List X) (i : ℕ) → i < length xs → (x : X) × (slice_get xs i ≡ Some x) × ((d : X) → get_or xs i d ≡ x)
+pub slice_at : {X : Type 0} (xs : List X) (i : ℕ) → i < length xs → (x : X) × (slice_get xs i ≡ Some x) × ((d : X) → get_or xs i d ≡ x)
 slice_at [] i h = absurd (omega arith)
 slice_at (x ∷ xs) zero h = (x, refl, λ d. refl)
 slice_at (x ∷ xs) (suc i) h = slice_at xs i (omega arith)

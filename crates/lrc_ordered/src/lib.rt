@@ -13,6 +13,7 @@ mod spread;
 #[cfg(test)]
 mod tests;
 mod turns;
+mod visits;
 
 pub use faults::OrderFault;
 pub use induce::{Tables, acyclic_induced};
