@@ -12,3 +12,4 @@ pub mod TurnLemmas
 pub mod NumberedLemmas
 pub mod LastLemmas
 pub mod VisitLemmas
+pub mod PartitionLemmas

@@ -1,9 +1,9 @@
 -- Which sets the numbers stand for.
-use Rattle.std.specs.Prelude.{◌≡◌, ◌≢◌, ℕ, zero, suc, ◌<◌, List, length, slice_index, All}
+use Rattle.std.specs.Prelude.{◌≡◌, ◌≢◌, ℕ, zero, suc, ◌+◌, ◌<◌, List, length, slice_index, All, ◌⊎◌}
 use Rattle.lrc_base.specs.declared.grammar.Attr.{Attr}
 use Rattle.lrc_base.specs.declared.grammar.Given.{Given}
 use Rattle.lrc_meaning.specs.Grammar.{Grammar, attrs_of_sort}
-use Rattle.lrc_graph.specs.Pairs.{Pairs, HasExactly}
+use Rattle.lrc_graph.specs.Pairs.{Pairs, Has, HasExactly}
 use Rattle.lrc_order.specs.Induced.{Induced}
 use Rattle.lrc_order.specs.Sets.{Placed, InSet, IsVisits}
 use Rattle.lrc_order.specs.Ordered.{IsGivenThere}
@@ -39,3 +39,14 @@ no_set (suc n) = 0
 -- how many attributes stand in no set
 unfoldable pub left : List ℕ → ℕ
 left sets = sum_below (λ a. no_set (slice_index sets a)) (length sets)
+
+-- the pair of attributes is induced, or of members of a set and of the one of the next lower number
+pub record ComesBefore (induced : Pairs) (sets : List ℕ) (x y : ℕ) : Type 0 where
+  pub x_in : x < length sets
+  pub y_in : y < length sets
+  pub order : Has induced x y ⊎ (slice_index sets x ≡ slice_index sets y + 1)
+
+-- a pass over a table added exactly the pairs of Extra
+pub record Added (old new : Pairs) (Extra : ℕ → ℕ → Type 0) : Type 0 where
+  pub points : new.points ≡ old.points
+  pub exact : HasExactly new (λ x y. Has old x y ⊎ Extra x y)

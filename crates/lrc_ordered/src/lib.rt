@@ -6,6 +6,7 @@ mod faults;
 mod gather;
 mod induce;
 mod needs;
+mod partition;
 mod places;
 mod settle;
 mod setup;
