@@ -13,3 +13,5 @@ pub mod NumberedLemmas
 pub mod LastLemmas
 pub mod VisitLemmas
 pub mod PartitionLemmas
+pub mod OrderLemmas
+pub mod ExtendLemmas

@@ -2,11 +2,14 @@
 #![tactic(auto)]
 
 mod cycles;
+mod extend;
 mod faults;
 mod gather;
 mod induce;
 mod needs;
+mod order_test;
 mod partition;
+mod partitions;
 mod places;
 mod settle;
 mod setup;
@@ -18,3 +21,5 @@ mod visits;
 
 pub use faults::OrderFault;
 pub use induce::{Tables, acyclic_induced};
+pub use order_test::{ordered, ordered_with};
+pub use partitions::Partitions;
