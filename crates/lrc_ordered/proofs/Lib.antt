@@ -15,3 +15,4 @@ pub mod VisitLemmas
 pub mod PartitionLemmas
 pub mod OrderLemmas
 pub mod ExtendLemmas
+pub mod AllLemmas

@@ -11,18 +11,12 @@ use Rattle.lrc_order.specs.declared.Partition.{Partition}
 use Rattle.lrc_order.specs.Sets.{HasTurn, InGreatest, Placed, InSet, IsVisits, Before}
 use Rattle.lrc_order.specs.Ordered.{IsPartition}
 use Rattle.lrc_order.proofs.TransitiveLemmas.{has_place}
-use Rattle.lrc_order.proofs.GreatestLemmas.{greatest_turn, turn_within}
+use Rattle.lrc_order.proofs.TurnLemmas.{placed_within}
 use Rattle.lrc_ordered.specs.Numbered.{IsTableOf, AreSets, ComesBefore}
 use Rattle.lrc_ordered.proofs.SetupLemmas.{map_at}
 
 module _ (g : Grammar) (given : List Given) (s : ℕ) where
-  -- an attribute that is placed is one of the sort
-  pub placed_within : (k a : ℕ) → Placed g given s k a → a < length (attrs_of_sort g.sorts s)
-  placed_within zero a h = elim h [ ]
-  placed_within (suc k) a (inl h) = placed_within k a h
-  placed_within (suc k) a (inr h) = turn_within g s (suc k) a (greatest_turn g given s (suc k) (Placed g given s k) a h).turn
-
-  -- and is in one set alone
+  -- an attribute is in one set alone
   pub one_set : (a k m : ℕ) → InSet g given s k a → InSet g given s m a → k ≡ m
   one_set a k m one other =
       elim (cases_lt k m) [
@@ -42,7 +36,7 @@ module _ (g : Grammar) (given : List Given) (s : ℕ) where
     set_is : (a k : ℕ) → InSet g given s k a → (a < length sets) × (slice_index sets a ≡ k)
     set_is a k h =
         let e = same_count in
-        let there = placed_within k a h.0 in
+        let there = placed_within g given s k a h.0 in
         let small : a < length sets = omega arith in
         (small, one_set a (slice_index sets a) k (are.in_set a small) h)
 

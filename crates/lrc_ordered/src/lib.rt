@@ -13,6 +13,7 @@ mod partitions;
 mod places;
 mod settle;
 mod setup;
+mod small;
 mod spread;
 #[cfg(test)]
 mod tests;
@@ -23,3 +24,4 @@ pub use faults::OrderFault;
 pub use induce::{Tables, acyclic_induced};
 pub use order_test::{ordered, ordered_with};
 pub use partitions::Partitions;
+pub use small::{are_given_there, is_small};
