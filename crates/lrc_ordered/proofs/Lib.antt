@@ -16,3 +16,4 @@ pub mod PartitionLemmas
 pub mod OrderLemmas
 pub mod ExtendLemmas
 pub mod AllLemmas
+pub mod SmallLemmas

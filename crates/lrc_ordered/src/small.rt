@@ -3,6 +3,7 @@ ghost use Rattle.lrc_base.specs.declared.grammar.Sort as base;
 ghost use Rattle.lrc_meaning.specs.Grammar.{occurrences_of};
 ghost use Rattle.lrc_grammar.specs.Grammar.{grammar_of};
 ghost use Rattle.lrc_order.specs.Ordered.{IsSmall, IsGivenThere};
+ghost use Rattle.lrc_ordered.specs.Small.{FewIsSmall};
 
 use lrc_base::{Given, Memory, Production, Sort};
 use lrc_grammar::{Grammar, attrs_of_sort, occurrences_of};
@@ -70,3 +71,9 @@ fn is_given_there(sorts: &[Sort], pair: Given) -> bool
         && (pair.first as usize) < count
         && (pair.then as usize) < count
 }
+
+/// A grammar with at most 256 productions, 16 attributes of each sort, 8 children of each production and
+/// 16 locals and nonterminal attributes of it is small enough.
+pub fn few_is_small()
+    ensures { FewIsSmall }
+{}
