@@ -8,6 +8,8 @@ mod gather;
 mod induce;
 mod needs;
 mod order_test;
+#[cfg(test)]
+mod order_tests;
 mod partition;
 mod partitions;
 mod places;
