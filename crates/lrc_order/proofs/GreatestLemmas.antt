@@ -1,6 +1,6 @@
 -- Which attributes the greatest set has: over a transitive relation one look at each attribute tells.
-use Rattle.std.proofs.Common.{◌≡◌, ℕ, zero, suc, ◌+◌, ◌<◌, Bool, true, false, List, [], ◌∷◌, Option, Some, None, All, Contains, slice_get, length, ◌⊎◌, ◌↔◌, inl, inr, refl, sym, ap, ◌∙◌, subst, arith}
-use Rattle.std.proofs.lemmas.Bool.{cases_eq, cases_lt, true≢false}
+use Rattle.std.proofs.Common.{◌≡◌, ℕ, zero, suc, ◌<◌, Bool, true, false, List, [], ◌∷◌, Option, Some, None, All, Contains, slice_get, length, ◌⊎◌, inl, inr, refl, sym, ap, ◌∙◌, subst, arith}
+use Rattle.std.proofs.lemmas.Bool.{cases_eq, true≢false}
 use Rattle.std.proofs.lemmas.Option.{none-some, same_Some, slice_get_within}
 use Rattle.std.proofs.lemmas.List.Elements.{All-nil, All-cons, All-contains, All-weaker}
 use Rattle.lrc_base.specs.declared.grammar.Attr.{Attr}
@@ -8,7 +8,7 @@ use Rattle.lrc_base.specs.declared.grammar.Given.{Given}
 use Rattle.lrc_meaning.specs.Grammar.{Grammar, attrs_of_sort}
 use Rattle.lrc_graph.specs.Pairs.{Pairs, Has, HasExactly, IsTransitive, paired}
 use Rattle.lrc_order.specs.Induced.{Induced}
-use Rattle.lrc_order.specs.Sets.{is_of_inherited, HasTurn, CanStand, InGreatest, Placed}
+use Rattle.lrc_order.specs.Sets.{is_of_inherited, HasTurn, InGreatest}
 use Rattle.lrc_order.specs.Laws.{HasItsTurn}
 
 -- the numbers below n with a property that is decided

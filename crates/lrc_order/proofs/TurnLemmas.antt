@@ -1,12 +1,11 @@
 -- No set between two with members is empty, so that their members come in turn.
-use Rattle.std.proofs.Common.{◌≡◌, ℕ, zero, suc, ◌+◌, ◌<◌, ◌≤◌, Bool, not, true, false, List, All, Contains, length, ◌⊎◌, inl, inr, refl, sym, ap, ◌∙◌, subst, arith}
-use Rattle.std.proofs.lemmas.Bool.{cases_eq, cases_lt}
+use Rattle.std.proofs.Common.{◌≡◌, ℕ, zero, suc, ◌+◌, ◌<◌, ◌≤◌, Bool, not, true, false, List, All, length, ◌⊎◌, inl, inr, refl, ◌∙◌, subst, arith}
+use Rattle.std.proofs.lemmas.Bool.{cases_eq}
 use Rattle.lrc_base.specs.declared.grammar.Given.{Given}
 use Rattle.lrc_meaning.specs.Grammar.{Grammar, attrs_of_sort}
 use Rattle.lrc_graph.specs.Pairs.{Pairs, Has, HasExactly, paired, Path, step, onward}
 use Rattle.lrc_order.specs.Induced.{Induced}
 use Rattle.lrc_order.specs.Sets.{is_of_inherited, HasTurn, InGreatest, Placed, InSet, Before}
-use Rattle.lrc_order.specs.Laws.{HasItsTurn}
 use Rattle.lrc_order.specs.Ordered.{IsGivenThere}
 use Rattle.lrc_order.proofs.SetLemmas.{placed-later}
 use Rattle.lrc_order.proofs.TransitiveLemmas.{has_place, induced_transitive}

@@ -1,20 +1,20 @@
 -- Tables that hold the induced dependencies and the order of each sort hold the extended dependencies.
-use Rattle.std.proofs.Common.{◌≡◌, ℕ, zero, suc, ◌+◌, ◌<◌, ◌≤◌, IsTrue, true, List, [], ◌∷◌, All, Contains, map, length, get_or, slice_get, Some, ◌⊎◌, ◌↔◌, inl, inr, refl, sym, ap, ◌∙◌, subst, arith}
+use Rattle.std.proofs.Common.{◌≡◌, ℕ, ◌<◌, IsTrue, true, List, [], All, Contains, length, get_or, ◌⊎◌, ◌↔◌, inl, inr, sym, ap, ◌∙◌, subst, arith}
 use Rattle.std.proofs.lemmas.List.{length-map}
 use Rattle.std.proofs.lemmas.List.Elements.{All-contains}
 use Rattle.lrc_base.specs.declared.grammar.Production.{Production}
 use Rattle.lrc_base.specs.declared.grammar.Given.{Given}
 use Rattle.lrc_meaning.specs.Grammar.{Grammar, attrs_of_sort, occurrences_of, is_production_right, is_well_formed}
-use Rattle.lrc_graph.specs.Pairs.{Pairs, Has, HasExactly, Path, step, IsTransitive}
+use Rattle.lrc_graph.specs.Pairs.{Pairs, Has, HasExactly, step, IsTransitive}
 use Rattle.lrc_graph.proofs.PairsLemmas.{joined}
 use Rattle.lrc_order.specs.declared.Need.{Need}
 use Rattle.lrc_order.specs.declared.Place.{Place}
 use Rattle.lrc_order.specs.declared.Partition.{Partition}
-use Rattle.lrc_order.specs.Needs.{need, needs_of, places_of}
+use Rattle.lrc_order.specs.Needs.{places_of}
 use Rattle.lrc_order.specs.Induced.{Leads, by_need, by_sort, onward}
 use Rattle.lrc_order.specs.Sets.{Before}
-use Rattle.lrc_order.specs.Extended.{ByPlace, Extended, ExtendedPath}
-use Rattle.lrc_order.specs.Ordered.{IsSmall, IsPartition, Partitions, ArePartitions}
+use Rattle.lrc_order.specs.Extended.{Extended, ExtendedPath}
+use Rattle.lrc_order.specs.Ordered.{IsSmall, Partitions, ArePartitions}
 use Rattle.lrc_ordered.specs.Tables.{nothing, table_at, HasAt, Closed, HandedAmong, FitsIn}
 use Rattle.lrc_ordered.specs.Setup.{AreInduced, orders_of}
 use Rattle.lrc_ordered.proofs.PlaceLemmas.{places_within}

@@ -1,8 +1,8 @@
 -- A pass that finds a new pair leaves fewer missing.
-use Rattle.std.proofs.Common.{◌≡◌, ℕ, zero, suc, ◌+◌, ◌<◌, ◌≤◌, Bool, true, false, cond, List, length, inl, inr, sym, refl, subst, arith, le_refl, zero-le}
-use Rattle.std.proofs.lemmas.Bool.{cases_eq, cases_lt, true≢false}
+use Rattle.std.proofs.Common.{◌≡◌, ℕ, zero, suc, ◌<◌, ◌≤◌, Bool, true, false, cond, List, length, inl, inr, sym, refl, subst, arith, le_refl, zero-le}
+use Rattle.std.proofs.lemmas.Bool.{cases_eq, true≢false}
 use Rattle.lrc_graph.specs.Pairs.{Pairs, paired, Has}
-use Rattle.lrc_ordered.specs.Tables.{table_at, HasAt, GatheredAll}
+use Rattle.lrc_ordered.specs.Tables.{table_at, GatheredAll}
 use Rattle.lrc_ordered.specs.Missing.{sum_below, missing_in, missing}
 
 pub sum_le : (f g : ℕ → ℕ) (n : ℕ) → ((k : ℕ) → k < n → f k ≤ g k) → sum_below f n ≤ sum_below g n

@@ -1,14 +1,13 @@
 -- The numbers of the sets give a sort's visits, and which attribute comes before which.
-use Rattle.std.proofs.Common.{◌≡◌, ◌≢◌, ℕ, zero, suc, ◌+◌, ◌*◌, ◌/◌, ◌-◌, ◌<◌, ◌≤◌, List, [], ◌∷◌, All, length, map, slice_index, get_or, ◌⊎◌, ◌↔◌, inl, inr, refl, sym, ap, ◌∙◌, subst, arith}
-use Rattle.std.specs.Prelude.{Some}
+use Rattle.std.proofs.Common.{◌≡◌, ℕ, suc, ◌+◌, ◌*◌, ◌/◌, ◌-◌, ◌<◌, ◌≤◌, List, length, map, slice_index, get_or, ◌↔◌, inl, inr, sym, ap, ◌∙◌, subst, arith}
 use Rattle.std.proofs.lemmas.Bool.{cases_lt, cases_eq}
 use Rattle.std.proofs.lemmas.List.{length-map}
 use Rattle.lrc_base.specs.declared.grammar.Attr.{Attr}
 use Rattle.lrc_base.specs.declared.grammar.Given.{Given}
 use Rattle.lrc_meaning.specs.Grammar.{Grammar, attrs_of_sort}
-use Rattle.lrc_graph.specs.Pairs.{Pairs, Has, HasExactly}
+use Rattle.lrc_graph.specs.Pairs.{Pairs, HasExactly}
 use Rattle.lrc_order.specs.declared.Partition.{Partition}
-use Rattle.lrc_order.specs.Sets.{HasTurn, InGreatest, Placed, InSet, IsVisits, Before}
+use Rattle.lrc_order.specs.Sets.{InSet, IsVisits, Before}
 use Rattle.lrc_order.specs.Ordered.{IsPartition}
 use Rattle.lrc_order.proofs.TransitiveLemmas.{has_place}
 use Rattle.lrc_order.proofs.TurnLemmas.{placed_within}

@@ -1,5 +1,5 @@
 -- A production with few children, locals and nonterminal attributes of sorts with few attributes has few occurrences.
-use Rattle.std.proofs.Common.{◌≡◌, ℕ, zero, suc, ◌+◌, ◌*◌, ◌<◌, ◌≤◌, Bool, true, false, List, [], ◌∷◌, ◌++◌, All, length, map, get_or, refl, length-append, arith, zero-le}
+use Rattle.std.proofs.Common.{◌≡◌, ℕ, zero, suc, ◌*◌, ◌<◌, ◌≤◌, Bool, true, false, List, [], ◌∷◌, All, length, map, get_or, refl, length-append, arith, zero-le}
 use Rattle.std.specs.List.{flat_map}
 use Rattle.std.proofs.lemmas.List.{length-map}
 use Rattle.std.proofs.lemmas.List.Elements.{All-weaker}
@@ -9,8 +9,8 @@ use Rattle.lrc_base.specs.declared.grammar.Sort.{Sort}
 use Rattle.lrc_base.specs.declared.grammar.Kid.{Kid}
 use Rattle.lrc_base.specs.declared.grammar.Extra.{Extra}
 use Rattle.lrc_base.specs.declared.grammar.Production.{Production}
-use Rattle.lrc_meaning.specs.Grammar.{Grammar, attrs_of_sort, attrs_of, symbol_occurrence, extra_occurrences, occurrences_of}
-use Rattle.lrc_order.specs.Needs.{own_end, kid_count, extra_count, kids_end}
+use Rattle.lrc_meaning.specs.Grammar.{Grammar, attrs_of_sort, attrs_of, symbol_occurrence, extra_occurrences}
+use Rattle.lrc_order.specs.Needs.{kid_count, extra_count}
 use Rattle.lrc_order.specs.Ordered.{IsSmall}
 use Rattle.lrc_ordered.specs.Small.{HasFew}
 use Rattle.lrc_ordered.proofs.PlaceLemmas.{occurrence_count, attached_length, local_length}

@@ -1,18 +1,18 @@
 -- Rounds that fill the two sets of a visit, until each attribute stands in one.
-use Rattle.std.proofs.Common.{◌≡◌, ◌≢◌, ℕ, zero, suc, ◌+◌, ◌*◌, ◌<◌, ◌≤◌, Bool, true, false, not, List, [], ◌∷◌, length, slice_index, get_or, ◌⊎◌, inl, inr, refl, sym, ap, ◌∙◌, subst, arith, le_refl, zero-le}
+use Rattle.std.proofs.Common.{◌≡◌, ◌≢◌, ℕ, zero, suc, ◌+◌, ◌*◌, ◌<◌, ◌≤◌, Bool, true, false, not, List, [], ◌∷◌, length, slice_index, inl, inr, refl, sym, ap, ◌∙◌, subst, arith, le_refl, zero-le}
 use Rattle.std.proofs.lemmas.Bool.{cases_eq, cases_lt}
 use Rattle.lrc_base.specs.declared.grammar.Attr.{Attr}
 use Rattle.lrc_base.specs.declared.grammar.Given.{Given}
 use Rattle.lrc_meaning.specs.Grammar.{Grammar, attrs_of_sort}
 use Rattle.lrc_graph.specs.Pairs.{Pairs, Has, IsTransitive}
-use Rattle.lrc_order.specs.Sets.{is_of_inherited, Placed, AreEnough}
+use Rattle.lrc_order.specs.Sets.{is_of_inherited, AreEnough}
 use Rattle.lrc_order.specs.Ordered.{IsAcyclic}
 use Rattle.lrc_order.proofs.SetLemmas.{placed-later}
 use Rattle.lrc_order.proofs.GreatestLemmas.{decide_pair}
 use Rattle.lrc_ordered.specs.Missing.{sum_below}
 use Rattle.lrc_ordered.specs.Turns.{IsOf, IsNext, IsFilled}
 use Rattle.lrc_ordered.specs.Numbered.{AreNumbered, IsTableOf, AreSets, IsLeft, no_set, left}
-use Rattle.lrc_ordered.proofs.MissingLemmas.{sum_le, sum_lt}
+use Rattle.lrc_ordered.proofs.MissingLemmas.{sum_lt}
 use Rattle.lrc_ordered.proofs.NumberedLemmas.{slice_at, numbered_more}
 use Rattle.lrc_ordered.proofs.LastLemmas.{Last, last_below}
 use Rattle.lrc_graph.specs.Pairs.{paired}

@@ -1,5 +1,5 @@
 -- The tables that the test begins with.
-use Rattle.std.specs.Prelude.{◌≡◌, ℕ, ◌<◌, List, map, length, slice_index_or, Contains, All, ◌⊎◌, ◌↔◌}
+use Rattle.std.specs.Prelude.{◌≡◌, ℕ, ◌<◌, List, map, length, slice_index_or, Contains, ◌↔◌}
 use Rattle.lrc_graph.specs.Pairs.{Pairs, Has, HasExactly, Path, IsTransitive}
 use Rattle.lrc_base.specs.declared.grammar.Sort.{Sort}
 use Rattle.lrc_base.specs.declared.grammar.Production.{Production}

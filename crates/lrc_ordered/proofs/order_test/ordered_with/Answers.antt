@@ -10,7 +10,7 @@ use Rattle.lrc_ordered.specs.Cycles.{HasNone, IsFirst}
 use Rattle.lrc_ordered.specs.Setup.{AreInduced, orders_of}
 use Rattle.lrc_ordered.specs.Tables.{table_at, Closed, HandedAmong, FitsIn}
 use Rattle.lrc_ordered.proofs.CycleLemmas.{no_cycle, first_is}
-use Rattle.lrc_ordered.proofs.ExtendLemmas.{as_many, few_points, all_closed, orders_fit, extended_same}
+use Rattle.lrc_ordered.proofs.ExtendLemmas.{few_points, all_closed, orders_fit, extended_same}
 use Rattle.lrc_ordered.proofs.order_test.ordered_with.Goals as goal
 
 pub extended-relations-requires-clause-few : goal.extended-relations-requires-clause-few

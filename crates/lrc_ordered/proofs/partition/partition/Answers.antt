@@ -1,4 +1,4 @@
-use Rattle.std.proofs.Common.{rules, arith, take, take_all, ◌++◌, ◌≤◌, ◌≡◌, ℕ, ◌+◌, ◌-◌, ◌/◌, ◌∙◌, List, map, refl, subst, length}
+use Rattle.std.proofs.Common.{rules, arith, take, take_all, ◌++◌, ◌≡◌, ℕ, ◌+◌, ◌-◌, ◌/◌, ◌∙◌, List, map, refl, subst, length}
 use Rattle.std.proofs.lemmas.List.{take-append-le}
 use Rattle.lrc_graph.specs.Pairs.{HasExactly}
 use Rattle.lrc_ordered.specs.Numbered.{ComesBefore}

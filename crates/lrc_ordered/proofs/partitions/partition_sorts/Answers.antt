@@ -1,4 +1,4 @@
-use Rattle.std.proofs.Common.{◌≡◌, ◌<◌, ◌+◌, ◌++◌, ◌∷◌, [], List, length, get_or, slice_get, Some, ap, sym, subst, ◌∙◌, arith, length-append}
+use Rattle.std.proofs.Common.{◌≡◌, ◌<◌, ◌+◌, ◌∷◌, [], List, length, get_or, slice_get, Some, ap, sym, subst, ◌∙◌, arith, length-append}
 use Rattle.lrc_graph.specs.Pairs.{Pairs, Has, HasExactly, IsTransitive}
 use Rattle.lrc_base.specs.declared.grammar.Sort.{Sort}
 use Rattle.lrc_base.specs.declared.grammar.Attr.{Attr}

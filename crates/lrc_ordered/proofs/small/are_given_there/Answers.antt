@@ -1,4 +1,4 @@
-use Rattle.std.proofs.Common.{◌<◌, get_or, refl, subst}
+use Rattle.std.proofs.Common.{get_or, refl, subst}
 use Rattle.std.specs.Prelude.{List}
 use Rattle.lrc_base.specs.declared.grammar.Given.{Given}
 use Rattle.lrc_base.specs.declared.grammar.Sort.{Sort}

@@ -1,4 +1,4 @@
-use Rattle.std.proofs.Common.{◌<◌, length, refl, ◌∙◌, ap, subst, sym, arith, ◌≡◌, List}
+use Rattle.std.proofs.Common.{◌<◌, length, refl, ap, arith}
 use Rattle.lrc_meaning.specs.Grammar.{occurrences_of}
 use Rattle.lrc_ordered.proofs.AllLemmas.{all_next, all_done}
 use Rattle.lrc_ordered.proofs.small.have_few_occurrences.Goals as goal

@@ -1,5 +1,4 @@
-use Rattle.std.proofs.Common.{◌≡◌, ◌+◌, ◌*◌, ◌<◌, ◌≤◌, ℕ, ◌∙◌, ap, length, arith}
-use Rattle.lrc_ordered.specs.Numbered.{left}
+use Rattle.std.proofs.Common.{◌∙◌, ap, length, arith}
 use Rattle.lrc_ordered.proofs.VisitLemmas.{left_le, none_numbered, first_round, more_rounds, all_rounds}
 use Rattle.lrc_ordered.proofs.visits.fill_sets.Goals as goal
 

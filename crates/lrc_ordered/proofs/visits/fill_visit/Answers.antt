@@ -1,4 +1,4 @@
-use Rattle.std.proofs.Common.{true, false, ◌≡◌, ◌+◌, ◌*◌, ◌<◌, ℕ, suc, ◌∙◌, refl, sym, subst, arith, length}
+use Rattle.std.proofs.Common.{true, false, ◌≡◌, ◌+◌, ◌*◌, suc, ◌∙◌, subst, arith}
 use Rattle.lrc_ordered.specs.Numbered.{AreNumbered}
 use Rattle.lrc_ordered.proofs.VisitLemmas.{even, within_filled, fewer_left, numbered_visit}
 use Rattle.lrc_ordered.proofs.visits.fill_visit.Goals as goal
