@@ -9,7 +9,8 @@ use std::marker::Model;
 /// The bits of a word.
 const WORD: u32 = 64;
 
-/// A relation over the points from 0 to below a number under 1,024. Only [`Relation::new`] takes memory.
+/// A relation over the points from 0 to below a number under 1,024. Only [`Relation::new`] and
+/// [`Relation::copy`] take memory.
 #[derive(Debug, Drop)]
 pub struct Relation {
     points: u32,
@@ -44,6 +45,17 @@ impl Relation {
             points,
             width,
             words,
+        })
+    }
+
+    /// An equal relation. The error is want of memory.
+    pub fn copy(&self, alloc: Global) -> Result<Relation, Memory>
+        ensures { IfOk result (λ r. r ≡ self.now) }
+    {
+        Ok(Relation {
+            points: self.points,
+            width: self.width,
+            words: Vec::from_slice(alloc, &self.words)?,
         })
     }
 

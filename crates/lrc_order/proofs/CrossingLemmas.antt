@@ -1,6 +1,6 @@
 -- The crossing grammar has an induced cycle, through the first attribute of X in its first context.
-use Rattle.std.proofs.Common.{◌≡◌, ◌≢◌, ℕ, zero, suc, ◌+◌, ◌<◌, List, [], ◌∷◌, All, Contains, ◌⊎◌, inl, inr, not-suc-le-zero, arith, refl, sym, ap, subst, length, lit<}
-use Rattle.std.specs.Prelude.{codes, pos, Some, None}
+use Rattle.std.proofs.Common.{◌≡◌, ℕ, ◌+◌, ◌<◌, [], ◌∷◌, All, Contains, ◌⊎◌, inl, inr, not-suc-le-zero, arith, refl, sym, subst, length, lit<}
+use Rattle.std.specs.Prelude.{codes, pos, None}
 use Rattle.std.proofs.lemmas.Bool.{cases_lt}
 use Rattle.std.proofs.lemmas.List.Elements.{All-from_recursion, All-contains, All-nil}
 use Rattle.lrc_base.specs.declared.grammar.Kind.TheVariants as k

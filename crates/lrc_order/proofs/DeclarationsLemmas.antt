@@ -1,9 +1,8 @@
 -- The order of the declarations grammar: declarations before the environment, and that before what is bad.
-use Rattle.std.proofs.Common.{◌≡◌, ℕ, zero, suc, pred, ◌+◌, ◌*◌, ◌<◌, ◌≤◌, List, [], ◌∷◌, All, Contains, ◌⊎◌, inl, inr, lt_trans, not-suc-le-zero, arith, refl, sym, ap, ◌∙◌, subst, length, lit<, lit≤}
-use Rattle.std.specs.Prelude.{codes, slice_get, Some, None, false, true, pos}
+use Rattle.std.proofs.Common.{◌≡◌, ℕ, zero, suc, pred, ◌+◌, ◌*◌, ◌<◌, [], ◌∷◌, All, Contains, ◌⊎◌, inl, inr, lt_trans, not-suc-le-zero, arith, refl, sym, ap, subst, length, lit<, lit≤}
+use Rattle.std.specs.Prelude.{codes, None, false, pos}
 use Rattle.std.proofs.lemmas.Bool.{cases_lt, cases_eq}
 use Rattle.std.proofs.lemmas.List.Elements.{All-from_recursion, All-contains}
-use Rattle.lrc_base.specs.declared.grammar.Attr.{Attr}
 use Rattle.lrc_base.specs.declared.grammar.Kind.TheVariants as k
 use Rattle.lrc_base.specs.declared.grammar.Production.{Production}
 use Rattle.lrc_base.specs.declared.expr.Expr.TheVariants as e
@@ -14,9 +13,9 @@ use Rattle.lrc_meaning.proofs.ExpressionLemmas.{expression_equations}
 use Rattle.lrc_order.specs.declared.Need.{Need}
 use Rattle.lrc_order.specs.declared.Place.{Place}
 use Rattle.lrc_order.specs.Needs.{need, needs_of, places_of}
-use Rattle.lrc_order.specs.Induced.{Leads, by_need, Induced, is_joined}
-use Rattle.lrc_order.specs.Sets.{HasTurn, CanStand, InGreatest, Placed, InSet, AreEnough, IsVisits, IsVisitOf}
-use Rattle.lrc_order.proofs.LeastLemmas.{KeepsRules, leads_least, induced_least}
+use Rattle.lrc_order.specs.Induced.{by_need, Induced, is_joined}
+use Rattle.lrc_order.specs.Sets.{HasTurn, InGreatest, Placed, InSet, IsVisits}
+use Rattle.lrc_order.proofs.LeastLemmas.{KeepsRules, induced_least}
 use Rattle.lrc_order.proofs.SetLemmas.{placed-later}
 
 abbrev top : Production

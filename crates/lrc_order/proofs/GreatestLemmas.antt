@@ -1,6 +1,6 @@
 -- Which attributes the greatest set has: over a transitive relation one look at each attribute tells.
-use Rattle.std.proofs.Common.{◌≡◌, ℕ, zero, suc, ◌+◌, ◌<◌, Bool, true, false, List, [], ◌∷◌, Option, Some, None, All, Contains, slice_get, length, ◌⊎◌, ◌↔◌, inl, inr, refl, sym, ap, ◌∙◌, subst, arith}
-use Rattle.std.proofs.lemmas.Bool.{cases_eq, cases_lt, true≢false}
+use Rattle.std.proofs.Common.{◌≡◌, ℕ, zero, suc, ◌<◌, Bool, true, false, List, [], ◌∷◌, Option, Some, None, All, Contains, slice_get, length, ◌⊎◌, inl, inr, refl, sym, ap, ◌∙◌, subst, arith}
+use Rattle.std.proofs.lemmas.Bool.{cases_eq, true≢false}
 use Rattle.std.proofs.lemmas.Option.{none-some, same_Some, slice_get_within}
 use Rattle.std.proofs.lemmas.List.Elements.{All-nil, All-cons, All-contains, All-weaker}
 use Rattle.lrc_base.specs.declared.grammar.Attr.{Attr}
@@ -8,7 +8,7 @@ use Rattle.lrc_base.specs.declared.grammar.Given.{Given}
 use Rattle.lrc_meaning.specs.Grammar.{Grammar, attrs_of_sort}
 use Rattle.lrc_graph.specs.Pairs.{Pairs, Has, HasExactly, IsTransitive, paired}
 use Rattle.lrc_order.specs.Induced.{Induced}
-use Rattle.lrc_order.specs.Sets.{is_of_inherited, HasTurn, CanStand, InGreatest, Placed}
+use Rattle.lrc_order.specs.Sets.{is_of_inherited, HasTurn, InGreatest}
 use Rattle.lrc_order.specs.Laws.{HasItsTurn}
 
 -- the numbers below n with a property that is decided
@@ -67,7 +67,7 @@ module _ (g : Grammar) (s k : ℕ) where
   pub turn_within : (x : ℕ) → HasTurn g s k x → x < length (attrs_of_sort g.sorts s)
   turn_within x h = slice_get_within (attrs_of_sort g.sorts s) x h.attr h.is_there
 
-decide_pair : (r : Pairs) (x y : ℕ) (b : Bool) → paired r x y ≡ b → Has r x y ⊎ (¬ Has r x y)
+pub decide_pair : (r : Pairs) (x y : ℕ) (b : Bool) → paired r x y ≡ b → Has r x y ⊎ (¬ Has r x y)
 decide_pair r x y true e = inl e
 decide_pair r x y false e = inr (λ h. true≢false (sym h ∙ e))
 

@@ -4,3 +4,4 @@ pub mod DeclarationsLemmas
 pub mod CrossingLemmas
 pub mod TransitiveLemmas
 pub mod GreatestLemmas
+pub mod TurnLemmas

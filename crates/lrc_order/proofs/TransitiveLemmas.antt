@@ -7,7 +7,7 @@ use Rattle.lrc_meaning.specs.Grammar.{Grammar, attrs_of_sort}
 use Rattle.lrc_graph.specs.Pairs.{IsTransitive}
 use Rattle.lrc_order.specs.declared.Place.{Place}
 use Rattle.lrc_order.specs.Needs.{places_of}
-use Rattle.lrc_order.specs.Induced.{StandsIn, Leads, by_sort, onward, Induced, is_given, is_joined}
+use Rattle.lrc_order.specs.Induced.{Leads, by_sort, onward, Induced, is_given, is_joined}
 use Rattle.lrc_order.specs.Ordered.{IsGivenThere}
 
 -- a place of the sort in the grammar, and both attributes are its

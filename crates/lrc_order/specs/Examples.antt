@@ -1,5 +1,5 @@
 -- Worked examples: a grammar that is not circular and not ordered.
-use Rattle.std.specs.Prelude.{ℕ, true, false, pos, List, [], ◌∷◌, codes}
+use Rattle.std.specs.Prelude.{true, false, pos, [], ◌∷◌, codes}
 use Rattle.lrc_base.specs.declared.grammar.Kind.TheVariants as k
 use Rattle.lrc_base.specs.declared.expr.Expr.TheVariants as e
 use Rattle.lrc_meaning.specs.Grammar.{Grammar}

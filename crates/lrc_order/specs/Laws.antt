@@ -1,10 +1,10 @@
 -- Laws of the definitions, on which the running test rests.
-use Rattle.std.specs.Prelude.{ℕ, List, All, Contains, ◌⊎◌, ◌↔◌}
+use Rattle.std.specs.Prelude.{ℕ, ◌+◌, ◌<◌, ◌≤◌, List, All, Contains, ◌⊎◌, ◌↔◌}
 use Rattle.lrc_base.specs.declared.grammar.Given.{Given}
 use Rattle.lrc_meaning.specs.Grammar.{Grammar}
-use Rattle.lrc_graph.specs.Pairs.{Pairs, HasExactly, IsTransitive}
+use Rattle.lrc_graph.specs.Pairs.{Pairs, HasExactly, IsTransitive, Path}
 use Rattle.lrc_order.specs.Induced.{Induced}
-use Rattle.lrc_order.specs.Sets.{HasTurn, InGreatest}
+use Rattle.lrc_order.specs.Sets.{HasTurn, InGreatest, InSet, Before}
 use Rattle.lrc_order.specs.Ordered.{IsGivenThere}
 
 -- the induced dependencies of a sort are transitive
@@ -22,3 +22,13 @@ abbrev pub OneLookTells : Type 0
 OneLookTells = (g : Grammar) (given : List Given) (s k : ℕ) (earlier : List ℕ) (r : Pairs) → All (IsGivenThere g.sorts) given
     → HasExactly r (Induced g given s) → (a : ℕ)
     → InGreatest g given s k (Contains earlier) a ↔ HasItsTurn g given s k (Contains earlier) a
+
+-- no set below one with a member is empty, but perhaps the first: what follows an empty set could have stood before it
+abbrev pub NoneIsEmpty : Type 0
+NoneIsEmpty = (g : Grammar) (given : List Given) (s : ℕ) (r : Pairs) → All (IsGivenThere g.sorts) given → HasExactly r (Induced g given s)
+    → (k a : ℕ) → 2 ≤ k → InSet g given s (k + 1) a → (b : ℕ) × InSet g given s k b
+
+-- so a member of a set comes before each member of a set of lower number
+abbrev pub SetsComeInTurn : Type 0
+SetsComeInTurn = (g : Grammar) (given : List Given) (s : ℕ) (r : Pairs) → All (IsGivenThere g.sorts) given → HasExactly r (Induced g given s)
+    → (k m a b : ℕ) → m < k → InSet g given s k a → InSet g given s m b → Path (Before g given s) a b

@@ -10,7 +10,7 @@ ghost use Rattle.lrc_order.specs.Induced.{Induced};
 ghost use Rattle.lrc_order.specs.Sets.{IsVisits, IsVisitOf};
 ghost use Rattle.lrc_order.specs.Ordered.{IsInducedCycle};
 ghost use Rattle.lrc_order.specs.Examples.{crossing};
-ghost use Rattle.lrc_order.specs.Laws.{AreTransitive, OneLookTells};
+ghost use Rattle.lrc_order.specs.Laws.{AreTransitive, OneLookTells, NoneIsEmpty, SetsComeInTurn};
 
 use lrc_base::List;
 use lrc_graph::Relation;
@@ -64,4 +64,11 @@ pub fn crossing_is_not_ordered()
 pub fn one_look_tells_a_set()
     ensures transitive { AreTransitive }
     ensures greatest { OneLookTells }
+{}
+
+/// Among the sets of a sort up to the last that has a member none is empty but perhaps the first; so an
+/// attribute comes before each one of a set of lower number, step by step through the sets between.
+pub fn sets_come_in_turn()
+    ensures none_is_empty { NoneIsEmpty }
+    ensures in_turn { SetsComeInTurn }
 {}

@@ -11,16 +11,16 @@ use Rattle.lrc_order.specs.Ordered.{IsSmall, IsGivenThere}
 use Rattle.lrc_ordered.proofs.PlaceLemmas.{places_within}
 use Rattle.lrc_ordered.proofs.RangeLemmas.{places_placed, needs_within, production_right}
 use Rattle.lrc_ordered.proofs.SettleLemmas.{all_tables}
-use Rattle.lrc_graph.specs.Pairs.{Pairs, Has, Path, step, IsTransitive}
+use Rattle.lrc_graph.specs.Pairs.{Pairs, Has, step, IsTransitive}
 use Rattle.lrc_graph.proofs.PairsLemmas.{along}
 use Rattle.lrc_order.specs.declared.Place.{Place}
 use Rattle.lrc_order.specs.Needs.{need, needs_of, places_of}
-use Rattle.lrc_order.specs.Induced.{StandsIn, Leads, by_need, by_sort, onward, Induced, is_given, is_joined}
+use Rattle.lrc_order.specs.Induced.{Leads, by_need, by_sort, onward, Induced, is_given, is_joined}
 use Rattle.std.proofs.lemmas.Bool.{false≢true}
 use Rattle.std.proofs.lemmas.List.{length-map}
 use Rattle.lrc_graph.specs.Pairs.{paired}
 use Rattle.lrc_ordered.specs.Tables.{nothing, FitsIn, AreTables, AreSettled, table_at, HasAt, Reached, by_table, by_place, by_path, Handed, by_sort_table, by_joining}
-use Rattle.lrc_ordered.specs.Setup.{IsNeedBelow, HasNeeds, IsEmptyTable, IsAmong, IsIn, AreInduced}
+use Rattle.lrc_ordered.specs.Setup.{IsNeedBelow, HasNeeds, IsEmptyTable, AreInduced}
 use Rattle.lrc_ordered.proofs.SetupLemmas.{IsPut, zip_at, zip_length, map_at}
 
 -- what stands at a place of a list that is there

@@ -1,12 +1,9 @@
 -- What the tables' first cycle says of the induced dependencies.
-use Rattle.std.proofs.Common.{◌≡◌, ℕ, zero, suc, ◌+◌, ◌<◌, ◌↔◌, List, [], ◌∷◌, ap, length-take-le, All, length, take, get_or, slice_get, Some, sym, subst, arith, get_or-take}
+use Rattle.std.proofs.Common.{◌≡◌, ℕ, zero, suc, ◌+◌, ◌<◌, ◌↔◌, List, [], ◌∷◌, ap, length-take-le, All, length, get_or, slice_get, Some, sym, subst, arith, get_or-take}
 use Rattle.lrc_base.specs.declared.grammar.Production.{Production}
-use Rattle.lrc_base.specs.declared.grammar.Given.{Given}
-use Rattle.lrc_meaning.specs.Grammar.{Grammar}
-use Rattle.lrc_graph.specs.Pairs.{Pairs, IsLeast}
-use Rattle.lrc_order.specs.Induced.{Leads}
-use Rattle.lrc_order.specs.Ordered.{IsAcyclic, IsFirstCycle, IsInducedCycle}
-use Rattle.lrc_ordered.specs.Tables.{table_at, HasAt}
+use Rattle.lrc_graph.specs.Pairs.{Pairs}
+use Rattle.lrc_order.specs.Ordered.{IsAcyclic, IsFirstCycle}
+use Rattle.lrc_ordered.specs.Tables.{HasAt}
 use Rattle.lrc_ordered.specs.Cycles.{HasNoneBelow, HasNone, IsFirst}
 use Rattle.lrc_ordered.proofs.BridgeLemmas.{item_at}
 use Rattle.lrc_ordered.proofs.GatherLemmas.{same_item}

@@ -1,8 +1,8 @@
 -- Passes over tables, one after another.
-use Rattle.std.proofs.Common.{◌≡◌, ◌≢◌, ℕ, zero, suc, ◌+◌, ◌<◌, ◌≤◌, Bool, true, false, ◌||◌, List, [], ◌∷◌, ◌++◌, length, take, set, get_or, Contains, All, ◌⊎◌, ◌↔◌, inl, inr, ap, sym, refl, ◌∙◌, subst, arith, add-one, take-suc, get_or-set_same, get_or-set_other, length-set, get_or-take}
-use Rattle.std.proofs.lemmas.Bool.{cases_eq, cases_lt, true≢false}
+use Rattle.std.proofs.Common.{◌≡◌, ◌≢◌, ℕ, zero, suc, ◌+◌, ◌<◌, Bool, true, false, ◌||◌, List, [], ◌∷◌, ◌++◌, length, take, set, get_or, Contains, ◌⊎◌, ◌↔◌, inl, inr, ap, sym, refl, ◌∙◌, subst, arith, add-one, take-suc, get_or-set_same, get_or-set_other, length-set}
+use Rattle.std.proofs.lemmas.Bool.{cases_eq, true≢false}
 use Rattle.std.proofs.lemmas.List.Elements.{Contains-append_left, Contains-push, Contains-push_cases}
-use Rattle.lrc_graph.specs.Pairs.{Pairs, Has, HasExactly}
+use Rattle.lrc_graph.specs.Pairs.{Pairs, Has}
 use Rattle.lrc_order.specs.declared.Place.{Place}
 use Rattle.lrc_ordered.specs.Tables.{nothing, table_at, HasAt, Gathered, GatheredAll, JoinedAt, JoinedAmong, JoinedIn, FitsIn}
 

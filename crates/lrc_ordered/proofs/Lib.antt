@@ -10,3 +10,10 @@ pub mod BridgeLemmas
 pub mod CycleLemmas
 pub mod TurnLemmas
 pub mod NumberedLemmas
+pub mod LastLemmas
+pub mod VisitLemmas
+pub mod PartitionLemmas
+pub mod OrderLemmas
+pub mod ExtendLemmas
+pub mod AllLemmas
+pub mod SmallLemmas

@@ -1,18 +1,18 @@
 -- A pass that finds a new pair leaves fewer missing.
-use Rattle.std.proofs.Common.{◌≡◌, ℕ, zero, suc, ◌+◌, ◌<◌, ◌≤◌, Bool, true, false, cond, List, length, inl, inr, sym, refl, subst, arith, le_refl, zero-le}
-use Rattle.std.proofs.lemmas.Bool.{cases_eq, cases_lt, true≢false}
+use Rattle.std.proofs.Common.{◌≡◌, ℕ, zero, suc, ◌<◌, ◌≤◌, Bool, true, false, cond, List, length, inl, inr, sym, refl, subst, arith, le_refl, zero-le}
+use Rattle.std.proofs.lemmas.Bool.{cases_eq, true≢false}
 use Rattle.lrc_graph.specs.Pairs.{Pairs, paired, Has}
-use Rattle.lrc_ordered.specs.Tables.{table_at, HasAt, GatheredAll}
+use Rattle.lrc_ordered.specs.Tables.{table_at, GatheredAll}
 use Rattle.lrc_ordered.specs.Missing.{sum_below, missing_in, missing}
 
-sum_le : (f g : ℕ → ℕ) (n : ℕ) → ((k : ℕ) → k < n → f k ≤ g k) → sum_below f n ≤ sum_below g n
+pub sum_le : (f g : ℕ → ℕ) (n : ℕ) → ((k : ℕ) → k < n → f k ≤ g k) → sum_below f n ≤ sum_below g n
 sum_le f g zero le = le_refl 0
 sum_le f g (suc n) le =
     let rest = sum_le f g n (λ k h. le k (omega arith)) in
     let last = le n (omega arith) in
     omega arith
 
-sum_lt : (f g : ℕ → ℕ) (n j : ℕ) → ((k : ℕ) → k < n → f k ≤ g k) → j < n → f j < g j → sum_below f n < sum_below g n
+pub sum_lt : (f g : ℕ → ℕ) (n j : ℕ) → ((k : ℕ) → k < n → f k ≤ g k) → j < n → f j < g j → sum_below f n < sum_below g n
 sum_lt f g zero j le h less = absurd (omega arith)
 sum_lt f g (suc n) j le h less =
     elim (cases_eq j n) [

@@ -1,14 +1,13 @@
 -- A round gives the next set of the definition.
-use Rattle.std.proofs.Common.{◌≡◌, ◌≢◌, ℕ, zero, suc, ◌+◌, ◌<◌, ◌≤◌, Bool, List, [], ◌∷◌, All, length, slice_get, slice_index, get_or, Some, ◌⊎◌, inl, inr, refl, sym, ap, ◌∙◌, subst, arith}
+use Rattle.std.proofs.Common.{◌≡◌, ◌≢◌, ℕ, zero, suc, ◌<◌, ◌≤◌, Bool, List, [], ◌∷◌, All, length, slice_get, slice_index, get_or, Some, inl, inr, refl, sym, ap, ◌∙◌, subst, arith}
 use Rattle.std.proofs.lemmas.Bool.{cases_eq, cases_lt}
 use Rattle.std.proofs.lemmas.Option.{same_Some}
 use Rattle.lrc_base.specs.declared.grammar.Attr.{Attr}
 use Rattle.lrc_base.specs.declared.grammar.Given.{Given}
 use Rattle.lrc_meaning.specs.Grammar.{Grammar, attrs_of_sort}
-use Rattle.lrc_graph.specs.Pairs.{Pairs, Has, HasExactly, IsTransitive}
+use Rattle.lrc_graph.specs.Pairs.{Pairs, HasExactly}
 use Rattle.lrc_order.specs.Induced.{Induced}
 use Rattle.lrc_order.specs.Sets.{is_of_inherited, HasTurn, InGreatest, Placed, InSet}
-use Rattle.lrc_order.specs.Laws.{HasItsTurn}
 use Rattle.lrc_order.specs.Ordered.{IsGivenThere}
 use Rattle.lrc_order.proofs.SetLemmas.{placed-later}
 use Rattle.lrc_order.proofs.TransitiveLemmas.{has_place, induced_transitive}
@@ -16,7 +15,7 @@ use Rattle.lrc_order.proofs.GreatestLemmas.{greatest_turn, turn_greatest, turn_w
 use Rattle.lrc_ordered.specs.Turns.{IsOf, IsNext, IsFilled}
 use Rattle.lrc_ordered.specs.Numbered.{AreNumbered}
 
-slice_at : {X : Type 0} (xs : List X) (i : ℕ) → i < length xs → (x : X) × (slice_get xs i ≡ Some x) × ((d : X) → get_or xs i d ≡ x)
+pub slice_at : {X : Type 0} (xs : List X) (i : ℕ) → i < length xs → (x : X) × (slice_get xs i ≡ Some x) × ((d : X) → get_or xs i d ≡ x)
 slice_at [] i h = absurd (omega arith)
 slice_at (x ∷ xs) zero h = (x, refl, λ d. refl)
 slice_at (x ∷ xs) (suc i) h = slice_at xs i (omega arith)

@@ -1,11 +1,11 @@
 -- Rounds of gathering and spreading.
 use Rattle.lrc_ordered.proofs.GatherLemmas.{same_item, same_fits}
-use Rattle.std.proofs.Common.{◌≡◌, Bool, ℕ, ◌+◌, ◌<◌, ◌≤◌, true, false, List, [], length, get_or, All, Contains, ◌⊎◌, ◌↔◌, inl, inr, sym, refl, ◌∙◌, subst, arith}
+use Rattle.std.proofs.Common.{◌≡◌, Bool, ℕ, ◌+◌, ◌<◌, false, List, [], length, get_or, All, ◌⊎◌, inl, inr, sym, refl, ◌∙◌, subst, arith}
 use Rattle.std.proofs.lemmas.List.Elements.{All-weaker}
-use Rattle.lrc_graph.specs.Pairs.{Pairs, Has, Path, step, IsTransitive}
+use Rattle.lrc_graph.specs.Pairs.{Pairs, Has, step, IsTransitive}
 use Rattle.lrc_graph.proofs.PairsLemmas.{along}
 use Rattle.lrc_order.specs.declared.Place.{Place}
-use Rattle.lrc_ordered.specs.Tables.{nothing, table_at, HasAt, GatheredAll, JoinedAmong, JoinedIn, FitsIn, Closed, HandedAt, HandedAmong, Reached, by_table, by_place, by_path, Handed, by_sort_table, by_joining, AreTables, AreSettled}
+use Rattle.lrc_ordered.specs.Tables.{nothing, table_at, HasAt, GatheredAll, JoinedIn, FitsIn, Closed, HandedAmong, Reached, by_table, by_place, by_path, Handed, by_sort_table, by_joining, AreTables, AreSettled}
 
 -- by the number of each table
 pub all_tables : (P : Pairs → Type 0) (xs : List Pairs) → ((i : ℕ) → i < length xs → P (table_at xs i)) → All P xs

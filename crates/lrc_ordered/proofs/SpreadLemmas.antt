@@ -1,10 +1,10 @@
 -- Passes that close tables again, one after another.
-use Rattle.std.proofs.Common.{◌≡◌, ℕ, ◌+◌, ◌<◌, ◌≤◌, List, [], ◌∷◌, length, take, get_or, Contains, ◌⊎◌, ◌↔◌, inl, inr, sym, refl, ◌∙◌, subst, arith, not-suc-le-zero}
-use Rattle.std.proofs.lemmas.Bool.{cases_eq, cases_lt}
-use Rattle.lrc_graph.specs.Pairs.{Pairs, Has, HasExactly, With, Path, step, onward, IsTransitive}
+use Rattle.std.proofs.Common.{◌≡◌, ℕ, ◌+◌, ◌<◌, List, [], length, take, get_or, ◌⊎◌, ◌↔◌, inl, inr, sym, refl, ◌∙◌, subst, arith, not-suc-le-zero}
+use Rattle.std.proofs.lemmas.Bool.{cases_eq}
+use Rattle.lrc_graph.specs.Pairs.{Pairs, Has, HasExactly, With, Path, step, IsTransitive}
 use Rattle.lrc_graph.proofs.PairsLemmas.{joined, along}
 use Rattle.lrc_order.specs.declared.Place.{Place}
-use Rattle.lrc_ordered.specs.Tables.{nothing, table_at, Closed, HandedAt, HandedAmong}
+use Rattle.lrc_ordered.specs.Tables.{table_at, Closed, HandedAt, HandedAmong}
 use Rattle.lrc_ordered.proofs.GatherLemmas.{contains_more}
 
 pub path_map : (R S : ℕ → ℕ → Type 0) → ((x y : ℕ) → R x y → S x y) → (x y : ℕ) → Path R x y → Path S x y

@@ -1,7 +1,7 @@
 -- The first table with a point that is paired with itself.
 use Rattle.std.specs.Prelude.{ℕ, ◌<◌, List, length, Some}
-use Rattle.lrc_graph.specs.Pairs.{Pairs, Has, IsLeast}
-use Rattle.lrc_ordered.specs.Tables.{table_at, HasAt}
+use Rattle.lrc_graph.specs.Pairs.{Pairs, IsLeast}
+use Rattle.lrc_ordered.specs.Tables.{HasAt}
 
 -- no table below n has such a point
 abbrev pub HasNoneBelow : List Pairs → ℕ → Type 0

@@ -1,5 +1,5 @@
 -- A worked example: one production with one local.
-use Rattle.std.specs.Prelude.{List, [], ◌∷◌, false, None, codes}
+use Rattle.std.specs.Prelude.{[], ◌∷◌, false, None, codes}
 use Rattle.lrc_base.specs.declared.grammar.Kind.TheVariants as k
 use Rattle.lrc_base.specs.declared.expr.Expr.{Expr}
 use Rattle.lrc_base.specs.declared.expr.Expr.TheVariants as e

@@ -1,5 +1,5 @@
 -- Why a grammar is not ordered.
-use Rattle.std.specs.Prelude.{ℕ, List, ⊤}
+use Rattle.std.specs.Prelude.{List, ⊤}
 use Rattle.lrc_base.specs.declared.grammar.Given.{Given}
 use Rattle.lrc_meaning.specs.Grammar.{Grammar}
 use Rattle.lrc_order.specs.Ordered.{IsInducedCycle, IsExtendedCycle}

@@ -6,3 +6,4 @@ pub mod Faults
 pub mod Examples
 pub mod Turns
 pub mod Numbered
+pub mod Small

@@ -1,5 +1,5 @@
 -- The tables that the test begins with.
-use Rattle.std.specs.Prelude.{◌≡◌, ℕ, ◌<◌, List, map, length, slice_index_or, Contains, All, ◌⊎◌, ◌↔◌}
+use Rattle.std.specs.Prelude.{◌≡◌, ℕ, ◌<◌, List, map, length, slice_index_or, Contains, ◌↔◌}
 use Rattle.lrc_graph.specs.Pairs.{Pairs, Has, HasExactly, Path, IsTransitive}
 use Rattle.lrc_base.specs.declared.grammar.Sort.{Sort}
 use Rattle.lrc_base.specs.declared.grammar.Production.{Production}
@@ -7,6 +7,7 @@ use Rattle.lrc_base.specs.declared.grammar.Given.{Given}
 use Rattle.lrc_meaning.specs.Grammar.{Grammar, attrs_of_sort, occurrences_of}
 use Rattle.lrc_order.specs.declared.Need.{Need}
 use Rattle.lrc_order.specs.declared.Place.{Place}
+use Rattle.lrc_order.specs.declared.Partition.{Partition}
 use Rattle.lrc_order.specs.Needs.{need, needs_of, places_of}
 use Rattle.lrc_order.specs.Induced.{Leads, Induced}
 use Rattle.lrc_ordered.specs.Tables.{table_at, HasAt}
@@ -48,3 +49,7 @@ pub record AreInduced (g : Grammar) (given : List Given) (places : List (List Pl
   pub tables : length sorts ≡ length g.sorts
   pub sort_points : (s : ℕ) → (table_at sorts s).points ≡ length (attrs_of_sort g.sorts s)
   pub induced : (s a b : ℕ) → HasAt sorts s a b ↔ Induced g given s a b
+
+-- the order of each sort
+abbrev pub orders_of : List Partition → List Pairs
+orders_of sorts = map (λ (found : Partition). found.before) sorts

@@ -2,17 +2,28 @@
 #![tactic(auto)]
 
 mod cycles;
+mod extend;
 mod faults;
 mod gather;
 mod induce;
 mod needs;
+mod order_test;
+#[cfg(test)]
+mod order_tests;
+mod partition;
+mod partitions;
 mod places;
 mod settle;
 mod setup;
+mod small;
 mod spread;
 #[cfg(test)]
 mod tests;
 mod turns;
+mod visits;
 
 pub use faults::OrderFault;
 pub use induce::{Tables, acyclic_induced};
+pub use order_test::{ordered, ordered_with};
+pub use partitions::Partitions;
+pub use small::{are_given_there, few_is_small, is_small};

@@ -34,7 +34,7 @@ fn spread_row(relation: &mut Relation, sort: &Relation, start: u32, first: u32)
 }
 
 /// The same for each two attributes of the sort.
-fn spread_place(relation: &mut Relation, sort: &Relation, start: u32)
+pub fn spread_place(relation: &mut Relation, sort: &Relation, start: u32)
     requires few { relation.old.points < 1024 }
     requires within { start + sort.now.points ≤ relation.old.points }
     requires closed { IsTransitive (Has relation.old) }

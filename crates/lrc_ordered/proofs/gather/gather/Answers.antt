@@ -1,4 +1,4 @@
-use Rattle.std.proofs.Common.{◌≡◌, ◌<◌, ◌+◌, [], List, length, get_or, subst, sym, ◌∙◌, All, arith, inl, inr}
+use Rattle.std.proofs.Common.{◌≡◌, ◌+◌, [], List, get_or, subst, sym, ◌∙◌, All, arith, inl, inr}
 use Rattle.std.proofs.lemmas.List.Elements.{All-weaker, All-same}
 use Rattle.lrc_graph.specs.Pairs.{Pairs}
 use Rattle.lrc_order.specs.declared.Place.{Place}

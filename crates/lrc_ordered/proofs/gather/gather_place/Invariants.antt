@@ -1,4 +1,4 @@
-use Rattle.std.proofs.Common.{◌≡◌, ◌<◌}
+use Rattle.std.proofs.Common.{◌<◌}
 use Rattle.lrc_ordered.specs.Tables.{Gathered, JoinedAt}
 use Rattle.lrc_ordered.proofs.gather.gather_place.Given as goal
 

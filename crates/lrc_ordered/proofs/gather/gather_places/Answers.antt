@@ -1,4 +1,4 @@
-use Rattle.std.proofs.Common.{◌≡◌, ◌<◌, sym, ap, ◌∙◌, subst, take, get_or, arith, length, ◌+◌}
+use Rattle.std.proofs.Common.{◌<◌, subst, take, get_or, arith, length, ◌+◌}
 use Rattle.std.specs.Prelude.{None}
 use Rattle.lrc_graph.specs.Pairs.{Pairs}
 use Rattle.lrc_order.specs.declared.Place.{Place}

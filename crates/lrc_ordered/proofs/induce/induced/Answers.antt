@@ -1,4 +1,4 @@
-use Rattle.std.proofs.Common.{ℕ, ◌↔◌, ◌⊎◌, ◌≡◌, List, map, All, sym, ap, ap₂, subst, subst₂, ◌∙◌, length}
+use Rattle.std.proofs.Common.{ℕ, ◌↔◌, ◌⊎◌, ◌≡◌, List, map, All, sym, ap₂, subst, subst₂, ◌∙◌, length}
 use Rattle.std.specs.List.{AllZip}
 use Rattle.lrc_base.specs.declared.grammar.Sort.{Sort}
 use Rattle.lrc_base.specs.declared.grammar.Production.{Production}
@@ -6,7 +6,7 @@ use Rattle.lrc_meaning.specs.Grammar.{occurrences_of}
 use Rattle.lrc_grammar.specs.Grammar.{grammar_of}
 use Rattle.lrc_order.specs.declared.Place.{Place}
 use Rattle.lrc_order.specs.Needs.{needs_of, places_of}
-use Rattle.lrc_ordered.specs.Setup.{IsNeedBelow, HasNeeds, IsEmptyTable, AreInduced}
+use Rattle.lrc_ordered.specs.Setup.{IsNeedBelow, HasNeeds, IsEmptyTable}
 use Rattle.lrc_ordered.specs.Tables.{AreTables, AreSettled, HasAt}
 use Rattle.lrc_ordered.proofs.SetupLemmas.{IsPut}
 use Rattle.lrc_ordered.proofs.BridgeLemmas.{closed_within, given_within, ready, induced_made}

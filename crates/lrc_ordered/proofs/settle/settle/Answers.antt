@@ -1,6 +1,5 @@
-use Rattle.std.proofs.Common.{◌<◌, Bool, true, false, subst}
+use Rattle.std.proofs.Common.{subst}
 use Rattle.lrc_ordered.specs.Tables.{GatheredAll, JoinedIn}
-use Rattle.lrc_ordered.specs.Missing.{missing}
 use Rattle.lrc_ordered.proofs.MissingLemmas.{fewer_missing}
 use Rattle.lrc_ordered.proofs.SettleLemmas.{begin, spread_step, gather_step, settled}
 use Rattle.lrc_ordered.proofs.settle.settle.Goals as goal

@@ -1,8 +1,7 @@
-use Rattle.std.proofs.Common.{ℕ, ◌≡◌, ◌<◌, List, get_or, set, length, length-set, sym, ap, subst, ◌∙◌, ◌⊎◌, ◌↔◌, take_all, arith}
+use Rattle.std.proofs.Common.{ℕ, ◌≡◌, ◌<◌, get_or, length, length-set, ap, subst, ◌∙◌, ◌⊎◌, ◌↔◌, take_all, arith}
 use Rattle.lrc_base.specs.declared.grammar.Given.{Given}
 use Rattle.lrc_graph.specs.Pairs.{Pairs, Has, HasExactly, With}
 use Rattle.lrc_ordered.specs.Tables.{nothing, table_at, HasAt}
-use Rattle.lrc_ordered.specs.Setup.{IsIn}
 use Rattle.lrc_ordered.proofs.GatherLemmas.{same_item}
 use Rattle.lrc_ordered.proofs.SetupLemmas.{IsPut, given_left, given_added, set_points}
 use Rattle.lrc_ordered.proofs.setup.add_given.Goals as goal

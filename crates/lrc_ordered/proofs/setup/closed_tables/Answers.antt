@@ -1,6 +1,6 @@
-use Rattle.std.proofs.Common.{◌≡◌, ◌<◌, map, ◌+◌, ◌++◌, ◌∷◌, [], List, take, sym, ap, subst, ◌∙◌, Contains, get_or, length}
+use Rattle.std.proofs.Common.{◌≡◌, ◌+◌, List, take, sym, ap, subst, ◌∙◌, Contains, get_or}
 use Rattle.std.specs.List.{AllZip}
-use Rattle.lrc_graph.specs.Pairs.{Has, HasExactly, Path}
+use Rattle.lrc_graph.specs.Pairs.{HasExactly}
 use Rattle.lrc_order.specs.declared.Need.{Need}
 use Rattle.lrc_order.specs.Needs.{need, needs_of}
 use Rattle.lrc_ordered.specs.Setup.{HasNeeds}

@@ -1,4 +1,4 @@
-use Rattle.std.proofs.Common.{◌≡◌, ◌+◌, ◌++◌, ◌∷◌, [], take, sym, subst, ◌∙◌}
+use Rattle.std.proofs.Common.{◌+◌, take, sym, subst, ◌∙◌}
 use Rattle.std.specs.List.{AllZip}
 use Rattle.lrc_ordered.proofs.SetupLemmas.{zip_more}
 use Rattle.lrc_ordered.specs.Setup.{IsEmptyTable}

@@ -1,4 +1,4 @@
-use Rattle.std.proofs.Common.{◌≡◌, ◌<◌, ◌+◌, ◌≤◌, [], List, length, get_or, subst, sym, ◌∙◌, All, arith, le_refl}
+use Rattle.std.proofs.Common.{◌≡◌, ◌<◌, [], List, length, get_or, subst, sym, ◌∙◌, All, arith, le_refl}
 use Rattle.std.proofs.lemmas.List.Elements.{All-same}
 use Rattle.lrc_graph.specs.Pairs.{Pairs}
 use Rattle.lrc_order.specs.declared.Place.{Place}

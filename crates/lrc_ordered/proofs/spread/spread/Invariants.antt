@@ -1,5 +1,4 @@
 use Rattle.std.proofs.Common.{◌≡◌, ◌<◌, ◌≤◌, ℕ, length, [], get_or}
-use Rattle.lrc_graph.specs.Pairs.{Pairs}
 use Rattle.lrc_ordered.specs.Tables.{Closed, HandedAmong, table_at}
 use Rattle.lrc_ordered.proofs.spread.spread.Given as goal
 

@@ -1,6 +1,5 @@
-use Rattle.std.proofs.Common.{◌≡◌, ◌+◌, ◌<◌, not-suc-le-zero, subst, arith}
-use Rattle.lrc_graph.specs.Pairs.{Has}
-use Rattle.lrc_ordered.specs.Tables.{Closed, HandedAt}
+use Rattle.std.proofs.Common.{◌+◌, not-suc-le-zero, arith}
+use Rattle.lrc_ordered.specs.Tables.{HandedAt}
 use Rattle.lrc_ordered.proofs.SpreadLemmas.{HandedBelow, RowsBelow, rows_more, closed_then, closed_none, closed_change}
 use Rattle.lrc_ordered.proofs.spread.spread_place.Goals as goal
 

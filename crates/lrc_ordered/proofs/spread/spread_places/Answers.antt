@@ -1,6 +1,6 @@
-use Rattle.std.proofs.Common.{◌≡◌, ◌+◌, ◌<◌, [], take, get_or, not-suc-le-zero, subst, ◌∙◌}
+use Rattle.std.proofs.Common.{◌≡◌, ◌+◌, [], take, get_or, subst, ◌∙◌}
 use Rattle.std.specs.Prelude.{None}
-use Rattle.lrc_graph.specs.Pairs.{Pairs, Has}
+use Rattle.lrc_graph.specs.Pairs.{Pairs}
 use Rattle.lrc_order.specs.declared.Place.{Place}
 use Rattle.lrc_ordered.specs.Tables.{Closed, HandedAt, HandedAmong, table_at, nothing}
 use Rattle.lrc_ordered.proofs.GatherLemmas.{same_item}

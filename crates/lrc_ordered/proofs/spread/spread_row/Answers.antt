@@ -1,4 +1,4 @@
-use Rattle.std.proofs.Common.{◌≡◌, ◌+◌, ◌<◌, not-suc-le-zero, subst, arith}
+use Rattle.std.proofs.Common.{◌≡◌, ◌+◌, not-suc-le-zero, subst, arith}
 use Rattle.lrc_graph.specs.Pairs.{Has}
 use Rattle.lrc_ordered.specs.Tables.{Closed}
 use Rattle.lrc_ordered.proofs.SpreadLemmas.{HandedBelow, handed_more, closed_then, closed_none}

@@ -1,5 +1,5 @@
-use Rattle.std.proofs.Common.{◌≡◌, ◌<◌, inl, inr, arith, length}
-use Rattle.lrc_ordered.proofs.TurnLemmas.{AreFilled, filled_left, filled_next}
+use Rattle.std.proofs.Common.{◌<◌, inl, inr, arith, length}
+use Rattle.lrc_ordered.proofs.TurnLemmas.{filled_left, filled_next}
 use Rattle.lrc_ordered.proofs.turns.fill_set.Goals as goal
 use Rattle.lrc_ordered.proofs.turns.fill_set.Goals.{then-sets-attr-eq0+then-is_next, else-sets-attr-eq0, else-sets-attr-eq0-via-then-sets-attr-eq0+else-is_next, else-sets-attr-eq0-via-else-sets-attr-eq0}
 
