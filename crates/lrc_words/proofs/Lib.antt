@@ -1,0 +1,4 @@
+pub mod RuleLemmas
+pub mod DefaultLemmas
+pub mod CommandLemmas
+pub mod ParseLemmas
