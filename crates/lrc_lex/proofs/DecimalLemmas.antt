@@ -3,7 +3,7 @@ use Rattle.std.proofs.Common.{◌≡◌, ℕ, ◌+◌, ◌-◌, ◌*◌, ◌<◌
 use Rattle.std.specs.Char.{is_ascii_digit}
 use Rattle.std.proofs.lemmas.Bool.{and_parts, leb-true}
 use Rattle.std.proofs.lemmas.List.Sums.{fold_more, fold-append}
-use Rattle.lrc_lex.specs.Decimal.{natural_value}
+use Rattle.lrc_lex.specs.Decimal.{natural_value, IsNegative}
 
 -- a digit lies from 48 to 57
 pub digit_range : (c : ℕ) → is_ascii_digit c ≡ true → (48 ≤ c) × (c ≤ 57)
@@ -27,3 +27,8 @@ pub natural_value_take_le : (digits : List ℕ) (n : ℕ) → natural_value (tak
 natural_value_take_le digits n =
     let whole : natural_value digits ≡ fold push_digit (natural_value (take n digits)) (drop n digits) = ap natural_value (sym (take-append-drop n digits)) ∙ fold-append push_digit 0 (take n digits) (drop n digits) in
     omega (arith, whole, fold_grows (natural_value (take n digits)) (drop n digits))
+
+-- a negative number has more than its `-`
+pub negative_some : (bytes : List ℕ) → IsNegative bytes → 1 ≤ length bytes
+negative_some [] h = absurd (omega (arith, h.some))
+negative_some (c ∷ rest) h = omega arith

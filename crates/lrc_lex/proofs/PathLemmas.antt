@@ -3,9 +3,11 @@ use Rattle.std.proofs.Common.{◌≡◌, ℕ, zero, suc, ◌+◌, ◌==◌, ◌<
 use Rattle.std.specs.Char.{is_ascii_digit}
 use Rattle.std.specs.List.{take_while}
 use Rattle.std.proofs.lemmas.Bool.{false≢true, eq-eqb}
+use Rattle.std.proofs.lemmas.Bool.Decides.{nat_tests}
 use Rattle.lrc_lex.specs.Decimal.{natural_value}
-use Rattle.lrc_lex.specs.Tokens.{begins_with, continues_path, path_len, path_steps, path_token_len}
-use Rattle.lrc_lex.specs.Longest.{IsPath}
+use Rattle.lrc_lex.specs.Forms.{begins_with, continues_path, path_len, IsPath}
+use Rattle.lrc_lex.specs.Front.{path_token_len}
+use Rattle.lrc_lex.specs.Tokens.{path_steps}
 
 -- one character more
 pub path_len_at : (text : List ℕ) (i : ℕ) → i < length text → path_len (drop i text) ≡ cond (continues_path (get_or text i 0) (drop (i + 1) text)) (suc (path_len (drop (i + 1) text))) 0
@@ -109,3 +111,27 @@ path_most c rest (suc m) within h =
           let below : m ≤ path_len rest = path_len-most rest m (omega arith) more.1 in
           subst (λ b. suc m ≤ cond b (suc (path_len rest)) 1) (sym (begins_with-front is_ascii_digit rest m more.0)) (omega arith)
     ]
+
+-- the bytes of a path are ASCII
+run_ascii : (xs : List ℕ) (k : ℕ) → k < path_len xs → get_or xs k 0 < 128
+run_ascii [] k h = absurd (omega arith)
+run_ascii (c ∷ rest) k h = over (is_ascii_digit c) (c == 47) refl refl k h (run_ascii rest)
+  where
+    over : (digit slash : Bool) → is_ascii_digit c ≡ digit → (c == 47) ≡ slash → (k : ℕ) → k < cond (digit || (slash && begins_with is_ascii_digit rest)) (suc (path_len rest)) 0
+        → ((j : ℕ) → j < path_len rest → get_or rest j 0 < 128) → get_or (c ∷ rest) k 0 < 128
+    over digit slash e f (suc k) h more = more k (inner (digit || (slash && begins_with is_ascii_digit rest)) h)
+      where
+        inner : (b : Bool) → suc k < cond b (suc (path_len rest)) 0 → k < path_len rest
+        inner true h = omega arith
+        inner false h = absurd (omega arith)
+    over true slash e f zero h more = grind (arith, nat_tests)
+    over false true e f zero h more = grind (arith, nat_tests)
+    over false false e f zero h more = absurd (omega arith)
+
+pub path_ascii : (c : ℕ) (rest : List ℕ) → c ≡ 47 → (k : ℕ) → k < path_token_len rest → get_or (c ∷ rest) k 0 < 128
+path_ascii c rest slash zero h = omega arith
+path_ascii c rest slash (suc k) h = over (begins_with is_ascii_digit rest) h
+  where
+    over : (b : Bool) → suc k < cond b (suc (path_len rest)) 1 → get_or rest k 0 < 128
+    over true h = run_ascii rest k (omega arith)
+    over false h = absurd (omega arith)

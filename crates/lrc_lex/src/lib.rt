@@ -1,38 +1,46 @@
 //! Cuts the text of a job into tokens, the longest one at each place.
 #![tactic(auto)]
 
-ghost use Rattle.std.specs.Prelude.{◌≡◌, ℕ, ◌≤◌, ◌↔◌, List as Sequence, length, take, All, IfOk, IsErrOf};
-ghost use Rattle.lrc_lex.specs.Tokens.{next, Tokens};
-ghost use Rattle.lrc_lex.specs.declared.scan.Step.TheVariants.{Take};
-ghost use Rattle.lrc_lex.specs.Longest.{IsTokenOf, IsLongest, IsTaken};
+ghost use Rattle.std.specs.Prelude.{◌≡◌, ◌≢◌, ℕ, ◌≤◌, ◌⊎◌, List as Sequence, length, All, IfOk, IfErr};
+ghost use Rattle.std.specs.Str.{IsUtf8};
+ghost use Rattle.lrc_lex.specs.Tokens.{Tokens, FirstFault, TokensFrom, FaultFrom};
+ghost use Rattle.lrc_lex.specs.declared.LexFault.TheVariants.{Memory};
+ghost use Rattle.lrc_lex.specs.Longest.{IsTokenOf};
 
 mod decimal;
+mod limits;
 mod paths;
+mod quoted;
 mod scan;
+mod words;
 
+use crate::limits::{excess, fits};
 use crate::scan::{Step, next};
-pub use decimal::natural;
+pub use decimal::{natural, negative};
 use lrc_base::{List, Memory};
 pub use paths::path;
+pub use quoted::unquoted;
 use std::alloc::Global;
+use thiserror::Error;
 
 /// The most bytes of a text.
 pub const TEXT_LIMIT: usize = 16_777_216;
 
-/// What a token is. So far only words, naturals, paths and symbols are read.
+/// What a token is.
 #[derive(Debug, Clone, Copy, PartialEq, Eq)]
 pub enum TokenClass {
-    /// A letter or `_`, then letters, digits and `_`: 64 bytes at most.
+    /// A character with which identifiers start or `_`, then characters that continue identifiers,
+    /// by Unicode Standard Annex 31: 64 bytes at most.
     Word,
     /// Decimal digits, whose value is at most 2^63 - 1.
     Natural,
-    /// `-` directly followed by decimal digits.
+    /// `-` directly followed by decimal digits, whose value is at most 2^63.
     Negative,
     /// `'` directly followed by a word.
     NameLit,
-    /// A text in double quotes.
+    /// A text in double quotes, of the bytes 32 to 126, with `"` and `\` behind a `\`.
     Text,
-    /// A place of a tree: `/`, or groups of `/` and digits.
+    /// A place of a tree: `/`, or groups of `/` and digits, whose value is at most 255.
     Path,
     /// One of `{ } ( ) : ; , . = == < + - *`.
     Symbol,
@@ -46,14 +54,24 @@ pub struct Token {
     pub end: u32,
 }
 
-/// Why a text has no tokens.
-#[derive(Debug, Clone, Copy, PartialEq, Eq)]
+/// Why a text has no tokens, numbered from 1 in this order. Places are in bytes, counted from 0.
+#[derive(Debug, Clone, Copy, PartialEq, Eq, Error)]
 pub enum LexFault {
+    /// The text isn't UTF-8. Its longest front that is has this length.
+    #[error("not UTF-8 at {at}")]
+    NotUtf8 { at: u32 },
+    /// Here stands a character that can't begin or continue a token, or the text ends within one.
+    #[error("unexpected character at {at}")]
+    BadChar { at: u32 },
+    /// The number that begins here is out of its range, or a step of the path that begins here.
+    #[error("number out of range at {at}")]
+    NumberRange { at: u32 },
+    /// The word that begins here has more than 64 bytes, or the one behind the `'` here.
+    #[error("name too long at {at}")]
+    NameLong { at: u32 },
     /// Memory ran out.
-    Memory = 5,
-    /// Something stands in the text that isn't read: a comment, a token of another class, a word,
-    /// a natural or a step of a path past its limit, or a byte that begins no token.
-    NotBuilt = 6,
+    #[error("out of memory")]
+    Memory,
 }
 
 impl From<Memory> for LexFault {
@@ -66,13 +84,12 @@ impl From<Memory> for LexFault {
     }
 }
 
-/// The tokens of the whole text, in order, for words, naturals, paths and symbols that are separated by
-/// spaces, tabs, line feeds and carriage returns.
-pub fn tokens(alloc: Global, text: &[u8]) -> Result<List<Token>, LexFault>
-    requires { length text.now ≤ TEXT_LIMIT }
-    ensures ok { IfOk result (λ found. Tokens text.now found) }
-    ensures each { IfOk result (λ found. All (IsTokenOf text.now) found) }
-    ensures not_built { IsErrOf result LexFault.NotBuilt → (found : Sequence Token) → Tokens text.now found → ⊥ }
+/// The tokens of a text in UTF-8.
+fn tokens_of(alloc: Global, text: &str) -> Result<List<Token>, LexFault>
+    requires short { length text.now ≤ TEXT_LIMIT }
+    requires utf8 { IsUtf8 text.now }
+    ensures ok { IfOk result (λ found. TokensFrom text.now 0 found) }
+    ensures fault { IfErr result (λ fault. fault ≢ Memory → FaultFrom text.now 0 fault) }
 {
     let mut found = List::new(alloc);
     let mut at = 0;
@@ -80,8 +97,16 @@ pub fn tokens(alloc: Global, text: &[u8]) -> Result<List<Token>, LexFault>
         match next(&text[at..]) {
             Step::End => return Ok(found),
             Step::Skip(length) => at += length,
+            Step::Refuse(length) => {
+                return Err(LexFault::BadChar {
+                    at: (at + length) as u32,
+                });
+            }
             Step::Take(class, length) => {
                 let end = at + length;
+                if !fits(class, &text.as_bytes()[at..end]) {
+                    return Err(excess(class, at as u32));
+                }
                 found.push(Token {
                     class,
                     at: at as u32,
@@ -89,87 +114,37 @@ pub fn tokens(alloc: Global, text: &[u8]) -> Result<List<Token>, LexFault>
                 })?;
                 at = end;
             }
-            Step::Refuse => return Err(LexFault::NotBuilt),
         }
     }
 }
 
-/// What holds of the tokens of any text: there is one list of them at most, and each is the
-/// longest one at its place. A token is taken at the front of a text exactly where it is the
-/// longest one there, and within the limit of its class.
+/// The tokens of the whole text, in order, the longest one at each place. They are separated by
+/// spaces, tabs, line feeds, carriage returns and comments, from `#` up to a line feed or the end.
+/// The error is the first fault of the text, or want of memory.
+pub fn tokens(alloc: Global, text: &[u8]) -> Result<List<Token>, LexFault>
+    requires { length text.now ≤ TEXT_LIMIT }
+    ensures ok { IfOk result (λ found. Tokens text.now found) }
+    ensures each { IfOk result (λ found. All (IsTokenOf text.now) found) }
+    ensures fault { IfErr result (λ fault. fault ≢ Memory → FirstFault text.now fault) }
+    ensures only { IfErr result (λ fault. fault ≢ Memory → (found : Sequence Token) → Tokens text.now found → ⊥) }
+{
+    match str::from_utf8(text) {
+        Ok(text) => tokens_of(alloc, text),
+        Err(error) => Err(LexFault::NotUtf8 {
+            at: error.valid_up_to() as u32,
+        }),
+    }
+}
+
+/// What holds of any text: it has one list of tokens or one first fault, and not both. Each token is
+/// the longest one at its place.
 pub fn token_laws()
     ensures one_list { (text : Sequence ℕ) (found others : Sequence Token) → Tokens text found → Tokens text others → found ≡ others }
+    ensures one_fault { (text : Sequence ℕ) (fault other : LexFault) → FirstFault text fault → FirstFault text other → fault ≡ other }
+    ensures never_both { (text : Sequence ℕ) (found : Sequence Token) (fault : LexFault) → Tokens text found → FirstFault text fault → ⊥ }
     ensures each { (text : Sequence ℕ) (found : Sequence Token) → Tokens text found → All (IsTokenOf text) found }
-    ensures takes { (left : Sequence ℕ) (class : TokenClass) (n : ℕ) → (next left ≡ Take class n) ↔ (IsLongest left class n × IsTaken class (take n left)) }
+    ensures some { (text : Sequence ℕ) → ((found : Sequence Token) × Tokens text found) ⊎ ((fault : LexFault) × FirstFault text fault) }
 {}
 
 #[cfg(test)]
-mod tests {
-    use super::*;
-    use std::test::Fail;
-
-    #[test]
-    fn takes_words_naturals_and_symbols(rt: HostRuntime) -> Result<(), Fail> {
-        let found = tokens(
-            rt.alloc(),
-            b"_a1{}():;,.===<+-*\t\r\n007b - 9223372036854775807",
-        )?;
-        let mut wanted = List::new(rt.alloc());
-        wanted.push(token(TokenClass::Word, 0, 3))?;
-        for at in 3..11 {
-            wanted.push(token(TokenClass::Symbol, at, at + 1))?;
-        }
-        wanted.push(token(TokenClass::Symbol, 11, 13))?;
-        for at in 13..18 {
-            wanted.push(token(TokenClass::Symbol, at, at + 1))?;
-        }
-        wanted.push(token(TokenClass::Natural, 21, 24))?;
-        wanted.push(token(TokenClass::Word, 24, 25))?;
-        wanted.push(token(TokenClass::Symbol, 26, 27))?;
-        wanted.push(token(TokenClass::Natural, 28, 47))?;
-        assert_eq!(rt; found.as_slice(), wanted.as_slice());
-        assert_eq!(rt; natural(b"007"), 7);
-        Ok(())
-    }
-
-    #[test]
-    fn takes_paths(rt: HostRuntime) -> Result<(), Fail> {
-        let found = tokens(rt.alloc(), b"//007/255/ /1a")?;
-        let mut wanted = List::new(rt.alloc());
-        wanted.push(token(TokenClass::Path, 0, 1))?;
-        wanted.push(token(TokenClass::Path, 1, 9))?;
-        wanted.push(token(TokenClass::Path, 9, 10))?;
-        wanted.push(token(TokenClass::Path, 11, 13))?;
-        wanted.push(token(TokenClass::Word, 13, 14))?;
-        assert_eq!(rt; found.as_slice(), wanted.as_slice());
-        let steps = path(rt.alloc(), b"/007/255")?.steps;
-        assert_eq!(rt; steps.as_slice(), b"\x07\xff".as_slice());
-        Ok(())
-    }
-
-    fn token(class: TokenClass, at: u32, end: u32) -> Token {
-        Token { class, at, end }
-    }
-
-    #[test]
-    fn refuses_the_rest(rt: HostRuntime) {
-        let long_word = [b'a'; 65];
-        let refused = [
-            b"a # b".as_slice(),
-            b"'a",
-            b"\"a\"",
-            b"/256",
-            b"/0/999999999999999999999",
-            b"a -1",
-            b"a\xc3\xa9",
-            b"a\0",
-            b"$",
-            b"9223372036854775808",
-            long_word.as_slice(),
-        ];
-        for text in refused {
-            assert!(rt; text.len() <= TEXT_LIMIT);
-            assert_eq!(rt; tokens(rt.alloc(), text).err(), Some(LexFault::NotBuilt));
-        }
-    }
-}
+mod tests;

@@ -2,7 +2,8 @@ ghost use Rattle.std.specs.Prelude.{◌≡◌, ◌≤◌, nat_le, length, IsTrue
 ghost use Rattle.std.specs.Char.{is_ascii_digit};
 ghost use Rattle.std.specs.List.{take_while};
 ghost use Rattle.lrc_lex.specs.Decimal.{natural_value};
-ghost use Rattle.lrc_lex.specs.Tokens.{continues_path, path_len, path_steps, are_steps_small};
+ghost use Rattle.lrc_lex.specs.Forms.{continues_path, path_len};
+ghost use Rattle.lrc_lex.specs.Tokens.{path_steps, are_steps_small};
 
 use crate::decimal::value_of;
 use crate::scan::{begins_with_digit, digits_length};
@@ -38,10 +39,7 @@ pub fn path_length(text: &[u8]) -> usize
 fn is_step_small(text: &[u8]) -> bool
     ensures { result ≡ nat_le (natural_value (take_while is_ascii_digit text.now)) 255 }
 {
-    match value_of(&text[..digits_length(text)]) {
-        Some(value) => value <= STEP_LIMIT,
-        None => false,
-    }
+    value_of(&text[..digits_length(text)], STEP_LIMIT).is_some()
 }
 
 /// Whether each step of a path is at most 255.
@@ -64,7 +62,7 @@ fn step_value(text: &[u8]) -> u8
     requires { natural_value (take_while is_ascii_digit text.now) ≤ 255 }
     ensures { result ≡ natural_value (take_while is_ascii_digit text.now) }
 {
-    value_of(&text[..digits_length(text)]).unwrap() as u8
+    value_of(&text[..digits_length(text)], STEP_LIMIT).unwrap() as u8
 }
 
 /// The place that a path's text names: its steps, in order. The error is want of memory.

@@ -1,27 +1,27 @@
-ghost use Rattle.std.specs.Prelude.{◌≡◌, ◌==◌, ◌+◌, ◌≤◌, length};
+ghost use Rattle.std.specs.Prelude.{◌≡◌, ◌==◌, ◌+◌, ◌≤◌, false, length, drop, slice_index};
 ghost use Rattle.std.specs.Char.{is_ascii_digit};
-ghost use Rattle.std.specs.List.{prefix_len, take_while};
-ghost use Rattle.lrc_lex.specs.Tokens.{is_blank, starts_word, continues_word, is_symbol, begins_with, word_step, natural_step, symbol_step, path_token_len, path_step, next};
+ghost use Rattle.std.specs.List.{prefix_len};
+ghost use Rattle.std.specs.Str.{chars};
+ghost use Rattle.lrc_lex.specs.Forms.{is_blank, is_symbol, is_escaped, is_plain, begins_with};
+ghost use Rattle.lrc_lex.specs.Place.{comment_len};
+ghost use Rattle.lrc_lex.specs.Front.{path_token_len, symbol_step, text_step, word_step, name_lit_step, word_len, next};
 
 use crate::TokenClass;
-use crate::decimal::value_of;
-use crate::paths::{are_steps_small, path_length};
+use crate::paths::path_length;
+use crate::words::word_length;
 
-/// What stands at the front of a text: its end, something that separates tokens, a token, or
-/// something that isn't read. Lengths are of bytes.
+/// What stands at the front of a text: its end, something that separates tokens, the longest
+/// token, or the place of a character that can't begin or continue one. All are in bytes.
 #[derive(Debug, Clone, Copy)]
 pub enum Step {
     End,
     Skip(usize),
     Take(TokenClass, usize),
-    Refuse,
+    Refuse(usize),
 }
 
 /// The symbols of one character.
 const SYMBOLS: &[u8] = b"{}():;,.=<+-*";
-
-/// The most bytes of a word.
-const WORD_LIMIT: usize = 64;
 
 fn is_blank(byte: u8) -> bool
     ensures { result ≡ is_blank byte }
@@ -29,22 +29,22 @@ fn is_blank(byte: u8) -> bool
     byte == b' ' || byte == b'\t' || byte == b'\n' || byte == b'\r'
 }
 
-fn starts_word(byte: u8) -> bool
-    ensures { result ≡ starts_word byte }
-{
-    byte.is_ascii_alphabetic() || byte == b'_'
-}
-
-fn continues_word(byte: u8) -> bool
-    ensures { result ≡ continues_word byte }
-{
-    byte.is_ascii_alphanumeric() || byte == b'_'
-}
-
 fn is_symbol(byte: u8) -> bool
     ensures { result ≡ is_symbol byte }
 {
     SYMBOLS.contains(&byte)
+}
+
+fn is_escaped(byte: u8) -> bool
+    ensures { result ≡ is_escaped byte }
+{
+    byte == b'"' || byte == b'\\'
+}
+
+fn is_plain(byte: u8) -> bool
+    ensures { result ≡ is_plain byte }
+{
+    byte >= b' ' && byte <= b'~' && !is_escaped(byte)
 }
 
 /// Whether a digit stands at the front.
@@ -60,16 +60,6 @@ fn begins_with_equals(text: &[u8]) -> bool
     !text.is_empty() && text[0] == b'='
 }
 
-/// The length of the longest run of a word's characters.
-fn word_length(text: &[u8]) -> usize
-    ensures length { result ≡ prefix_len continues_word text.now }
-    ensures within { result ≤ length text.now }
-{
-    text.iter()
-        .take_while(|byte| continues_word(**byte))
-        .count()
-}
-
 /// The length of the longest run of digits.
 pub fn digits_length(text: &[u8]) -> usize
     ensures length { result ≡ prefix_len is_ascii_digit text.now }
@@ -78,45 +68,29 @@ pub fn digits_length(text: &[u8]) -> usize
     text.iter().take_while(|byte| byte.is_ascii_digit()).count()
 }
 
-fn word(length: usize) -> Step
-    ensures { result ≡ word_step length }
+/// The length of a comment, which ends before a line feed.
+fn comment_length(text: &[u8]) -> usize
+    ensures { result ≡ comment_len text.now }
 {
-    if length <= WORD_LIMIT {
-        Step::Take(TokenClass::Word, length)
-    } else {
-        Step::Refuse
-    }
+    text.iter().take_while(|byte| **byte != b'\n').count()
 }
 
-#[tactic(auto, using(crate::proofs::Runs::passes_in_run))]
-fn number(text: &[u8]) -> Step
-    ensures { result ≡ natural_step (take_while is_ascii_digit text.now) }
-{
-    let digits = &text[..digits_length(text)];
-    match value_of(digits) {
-        Some(_) => Step::Take(TokenClass::Natural, digits.len()),
-        None => Step::Refuse,
-    }
-}
-
+/// The longest symbol, or negative number, that begins with a symbol's character.
 fn symbol(first: u8, rest: &[u8]) -> Step
     ensures { result ≡ symbol_step first rest.now }
 {
     if first == b'=' && begins_with_equals(rest) {
         Step::Take(TokenClass::Symbol, 2)
     } else if first == b'-' && begins_with_digit(rest) {
-        Step::Refuse
-    } else if is_symbol(first) {
-        Step::Take(TokenClass::Symbol, 1)
+        Step::Take(TokenClass::Negative, 1 + digits_length(rest))
     } else {
-        Step::Refuse
+        Step::Take(TokenClass::Symbol, 1)
     }
 }
 
 /// The length of the longest path, where `rest` follows its first `/`.
 fn path_token_length(rest: &[u8]) -> usize
-    ensures length { result ≡ path_token_len rest.now }
-    ensures within { result ≤ length rest.now + 1 }
+    ensures { result ≡ path_token_len rest.now }
 {
     if begins_with_digit(rest) {
         1 + path_length(rest)
@@ -125,37 +99,83 @@ fn path_token_length(rest: &[u8]) -> usize
     }
 }
 
-/// The path at the front of the text, which begins with `/`.
-fn path(text: &[u8]) -> Step
-    requires some { 1 ≤ length text.now }
-    ensures { result ≡ path_step text.now }
+/// The text in quotes whose `"` this follows.
+#[tactic(auto, using(crate::proofs::TextLemmas::text_step_at, crate::proofs::TextLemmas::text_step_end))]
+fn quoted(rest: &[u8]) -> Step
+    ensures { result ≡ text_step false 1 rest.now }
 {
-    let length = path_token_length(&text[1..]);
-    if are_steps_small(&text[..length]) {
-        Step::Take(TokenClass::Path, length)
+    let mut behind_backslash = false;
+    for at in 0..rest.len() {
+        let byte = rest[at];
+        if behind_backslash {
+            if !is_escaped(byte) {
+                return Step::Refuse(at + 1);
+            }
+            behind_backslash = false;
+        } else if !is_plain(byte) {
+            if byte == b'"' {
+                return Step::Take(TokenClass::Text, at + 2);
+            }
+            if byte != b'\\' {
+                return Step::Refuse(at + 1);
+            }
+            behind_backslash = true;
+        }
+    }
+    Step::Refuse(rest.len() + 1)
+}
+
+/// A word of so many bytes, or none.
+fn word(length: usize) -> Step
+    ensures { result ≡ word_step length }
+{
+    if length == 0 {
+        Step::Refuse(0)
     } else {
-        Step::Refuse
+        Step::Take(TokenClass::Word, length)
+    }
+}
+
+/// The word behind a `'`.
+#[tactic(auto, using(crate::proofs::Utf8Lemmas::boundary_behind))]
+fn name_lit(text: &str) -> Step
+    requires some { 1 ≤ length text.now }
+    requires ascii { slice_index text.now 0 ≡ 39 }
+    ensures { result ≡ name_lit_step (word_len (chars (drop 1 text.now))) }
+{
+    let length = word_length(&text[1..]);
+    if length == 0 {
+        Step::Refuse(1)
+    } else {
+        Step::Take(TokenClass::NameLit, 1 + length)
     }
 }
 
 /// What stands at the front of the text.
-#[tactic(auto, using(crate::proofs::NextLemmas::next_end, crate::proofs::NextLemmas::next_blank, crate::proofs::NextLemmas::next_word, crate::proofs::NextLemmas::next_natural, crate::proofs::NextLemmas::next_path, crate::proofs::NextLemmas::next_symbol))]
-pub fn next(text: &[u8]) -> Step
+#[tactic(auto, using(crate::proofs::NextLemmas::next_end, crate::proofs::NextLemmas::next_blank, crate::proofs::NextLemmas::next_comment, crate::proofs::NextLemmas::next_natural, crate::proofs::NextLemmas::next_path, crate::proofs::NextLemmas::next_symbol, crate::proofs::NextLemmas::next_quoted, crate::proofs::NextLemmas::next_name_lit, crate::proofs::NextLemmas::next_word))]
+pub fn next(text: &str) -> Step
     ensures { result ≡ next text.now }
 {
-    if text.is_empty() {
+    let bytes = text.as_bytes();
+    if bytes.is_empty() {
         return Step::End;
     }
-    let first = text[0];
+    let first = bytes[0];
     if is_blank(first) {
         Step::Skip(1)
-    } else if starts_word(first) {
-        word(word_length(text))
+    } else if first == b'#' {
+        Step::Skip(comment_length(bytes))
     } else if first.is_ascii_digit() {
-        number(text)
+        Step::Take(TokenClass::Natural, digits_length(bytes))
     } else if first == b'/' {
-        path(text)
+        Step::Take(TokenClass::Path, path_token_length(&bytes[1..]))
+    } else if is_symbol(first) {
+        symbol(first, &bytes[1..])
+    } else if first == b'"' {
+        quoted(&bytes[1..])
+    } else if first == b'\'' {
+        name_lit(text)
     } else {
-        symbol(first, &text[1..])
+        word(word_length(text))
     }
 }

@@ -65,7 +65,12 @@ fn tokens_of(alloc: Global, bytes: &[u8]) -> Result<List<Token>, JobFault>
     match tokens(alloc, bytes) {
         Ok(found) => Ok(found),
         Err(LexFault::Memory) => Err(JobFault::Memory),
-        Err(LexFault::NotBuilt) => Err(JobFault::NotBuilt),
+        Err(
+            LexFault::NotUtf8 { .. }
+            | LexFault::BadChar { .. }
+            | LexFault::NumberRange { .. }
+            | LexFault::NameLong { .. },
+        ) => Err(JobFault::NotBuilt),
     }
 }
 

@@ -3,8 +3,8 @@ use Rattle.lrc_lex.proofs.DecimalLemmas.{digit_range, natural_value_more, natura
 use Rattle.lrc_lex.proofs.decimal.value_of.Goals as goal
 
 -- the value of the digits so far and one more is too great already
-pub returns-then-value-digit : goal.returns-then-value-digit
-returns-then-value-digit c =
+pub returns-then-value-limit : goal.returns-then-value-limit
+returns-then-value-limit c =
     let digits = c.args.digits.now in
     let i = c.loop-byte.byte-index in
-    omega (arith, c.from-digit.ensures, digit_range (get_or digits i 0) (c.requires i 0 c.loop-byte-test.true), natural_value_more digits i c.loop-byte-test.true, natural_value_take_le digits (i + 1))
+    omega (arith, c.from-digit.ensures, digit_range (get_or digits i 0) (c.requires.digits i 0 c.loop-byte-test.true), natural_value_more digits i c.loop-byte-test.true, natural_value_take_le digits (i + 1))

@@ -1,5 +1,5 @@
 use Rattle.std.proofs.Common.{◌≡◌, ◌+◌, drop}
-use Rattle.lrc_lex.specs.Tokens.{path_len}
+use Rattle.lrc_lex.specs.Forms.{path_len}
 use Rattle.lrc_lex.proofs.paths.path_length.Given as goal
 
 -- each character so far continues a path

@@ -1,6 +1,6 @@
 use Rattle.std.proofs.Common.{◌-◌, length}
 use Rattle.lrc_lex.proofs.TokensLemmas.{Reads}
-use Rattle.lrc_lex.proofs.tokens.Given as goal
+use Rattle.lrc_lex.proofs.tokens_of.Given as goal
 
 abbrev pub invariant-loop-found : goal.invariant-loop-found
 invariant-loop-found l = Reads l.text l.found l.at
