@@ -1,7 +1,7 @@
 ghost use Rattle.std.specs.Prelude.{◌≡◌, IfOk};
 
 use crate::name::NameText;
-use sqlite_items::Items;
+use sqlite_items::{Boxed, Items};
 use std::alloc::{AllocError, Global};
 
 /// A tree over the productions of a grammar, or a leaf.
@@ -9,7 +9,8 @@ use std::alloc::{AllocError, Global};
 pub enum Term {
     Int(i64),
     Bool(bool),
-    Name(NameText),
+    /// Boxed, so that a term takes little room.
+    Name(Boxed<NameText>),
     /// The number of a production, and its children.
     Node(u32, Items<Term>),
 }
@@ -26,13 +27,13 @@ impl Term {
         match self {
             Term::Int(number) => Ok(Term::Int(*number)),
             Term::Bool(truth) => Ok(Term::Bool(*truth)),
-            Term::Name(name) => Ok(Term::Name(*name)),
+            Term::Name(name) => Ok(Term::Name(Boxed::new(alloc, *name.get())?)),
             Term::Node(production, kids) => {
-                let mut copies = Items::new(alloc);
+                let mut copies = Vec::with_capacity(alloc, kids.len())?;
                 for kid in kids.as_slice() {
                     copies.push(kid.copy(alloc)?)?;
                 }
-                Ok(Term::Node(*production, copies))
+                Ok(Term::Node(*production, Items::from_vec(copies)))
             }
         }
     }

@@ -1,5 +1,5 @@
 //! Copies of terms: the tree of a `let` with its names, and a tree of a thousand nodes on one path.
-use crate::{List, NameText, Term};
+use crate::{Boxed, List, NameText, Term};
 use std::alloc::Global;
 use std::test::Fail;
 
@@ -13,8 +13,9 @@ const ADD: u32 = 3;
 
 const LET: u32 = 5;
 
-fn name(bytes: &[u8]) -> Result<Term, Fail> {
-    Ok(Term::Name(NameText::of(bytes).ok_or("no name")?))
+fn name(alloc: Global, bytes: &[u8]) -> Result<Term, Fail> {
+    let name = NameText::of(bytes).ok_or("no name")?;
+    Ok(Term::Name(Boxed::new(alloc, name)?))
 }
 
 fn one(alloc: Global, production: u32, kid: Term) -> Result<Term, Fail> {
@@ -23,11 +24,11 @@ fn one(alloc: Global, production: u32, kid: Term) -> Result<Term, Fail> {
 
 /// `Root(Let('x, Num(3), Add(Var('x), Num(4))))`
 fn let_tree(alloc: Global) -> Result<Term, Fail> {
-    let var = one(alloc, VAR, name(b"x")?)?;
+    let var = one(alloc, VAR, name(alloc, b"x")?)?;
     let four = one(alloc, NUM, Term::Int(4))?;
     let sum = Term::Node(ADD, List::from_vec(vec![in alloc; var, four]?));
     let three = one(alloc, NUM, Term::Int(3))?;
-    let parts = vec![in alloc; name(b"x")?, three, sum]?;
+    let parts = vec![in alloc; name(alloc, b"x")?, three, sum]?;
     one(alloc, ROOT, Term::Node(LET, List::from_vec(parts)))
 }
 

@@ -1,12 +1,14 @@
 -- A grammar of the form that is read is plain: its attributes are synthesised numbers, and its expressions sums.
-use Rattle.std.proofs.Common.{◌≡◌, ℕ, zero, suc, Bool, true, false, ◌&&◌, IsTrue, List, [], ◌∷◌, map, Option, Some, None, option_map, option_and_then, refl, sym, ap, subst, inl, inr}
+use Rattle.std.proofs.Common.{◌≡◌, ℕ, zero, suc, Bool, true, false, ◌&&◌, IsTrue, List, [], ◌∷◌, ◌++◌, map, flat_map, Option, Some, None, option_map, option_and_then, refl, sym, ap, ◌∙◌, subst, inl, inr}
 use Rattle.std.specs.List.{AllByRecursion, list_all}
 use Rattle.lrc_base.specs.declared.grammar.Attr.{Attr}
 use Rattle.lrc_base.specs.declared.grammar.Kind.{Kind}
 use Rattle.lrc_base.specs.declared.grammar.Kind.TheVariants as k
 use Rattle.lrc_base.specs.declared.grammar.Kid.{Kid}
 use Rattle.lrc_base.specs.declared.grammar.Sort.{Sort}
+use Rattle.lrc_base.specs.declared.grammar.Extra.{Extra}
 use Rattle.lrc_base.specs.declared.grammar.Equation.{Equation}
+use Rattle.lrc_base.specs.declared.grammar.Piece.{Piece}
 use Rattle.lrc_base.specs.declared.grammar.Production.{Production}
 use Rattle.lrc_base.specs.declared.expr.Op.TheVariants as op
 use Rattle.lrc_base.specs.declared.expr.Expr.{Expr}
@@ -26,7 +28,7 @@ use Rattle.lrc_meaning.specs.Expression.{expression}
 use Rattle.lrc_meaning.specs.Grammar.{Grammar}
 use Rattle.lrc_meaning.specs.Editing.{Change}
 use Rattle.lrc_meaning.specs.Plain.{is_sum, is_plain_attr, is_plain_production, is_plain}
-use Rattle.lrc_meaning.specs.Naming.{Called, each_some, sort_number, named_kind, named_attr, named_sort, named_kid, occurrence_number, leaf_number, or_leaf, named_expr, named_equation, called_occurrences, named_with, named_production, named_grammar}
+use Rattle.lrc_meaning.specs.Naming.{Known, each_some, sort_number, named_kind, named_attr, named_sort, named_kid, named_extra, named_extras, occurrence_number, leaf_number, or_leaf, named_expr, named_equation, named_equations, named_pattern, called_occurrences, named_with, named_production, named_grammar}
 use Rattle.lrc_meaning.proofs.ExpressionLemmas.{expression_equations}
 use Rattle.lrc_naming.proofs.NamingLemmas.{named_expr_equations}
 use Rattle.lrc_parse.specs.Language.{Many, Turns, Separated, Skip}
@@ -55,11 +57,27 @@ each_passes {A} {B} f P t each [] all ys h = let same : [] ≡ ys = cc in subst 
 each_passes f P t each (x ∷ xs) all ys h =
     first_then t (f x) (each_some (map f xs)) ys (each x all.0) (λ zs k. each_passes f P t each xs all.1 zs k) h
 
+-- whatever it is, it passes
+abbrev Passes : {B : Type 0} → (B → Bool) → Option B → Type 0
+Passes {B} t o = (y : B) → o ≡ Some y → t y ≡ true
+
+all_pass : {B : Type 0} (t : B → Bool) (os : List (Option B)) → AllByRecursion (Passes t) os → (ys : List B) → each_some os ≡ Some ys → list_all t ys ≡ true
+all_pass {B} t [] all ys h = let same : [] ≡ ys = cc in subst (λ (l : List B). list_all t l ≡ true) same refl
+all_pass t (o ∷ os) all ys h = first_then t o (each_some os) ys all.0 (λ zs k. all_pass t os all.1 zs k) h
+
+all_joined : {C : Type 0} (Q : C → Type 0) (xs ys : List C) → AllByRecursion Q xs → AllByRecursion Q ys → AllByRecursion Q (xs ++ ys)
+all_joined Q [] ys all more = more
+all_joined Q (x ∷ xs) ys all more = (all.0, all_joined Q xs ys all.1 more)
+
+all_parts : {A C : Type 0} (f : A → List C) (Q : C → Type 0) (xs : List A) → AllByRecursion (λ (x : A). AllByRecursion Q (f x)) xs → AllByRecursion Q (flat_map f xs)
+all_parts f Q [] all = tt
+all_parts f Q (x ∷ xs) all = all_joined Q (f x) (flat_map f xs) all.0 (all_parts f Q xs all.1)
+
 -- ---- expressions
 
 -- whatever it is named, it is a sum
 abbrev SumsOnly : RawExpr → Type 0
-SumsOnly x = (occ : List Called) (kids : List Kid) (y : Expr) → named_expr occ kids x ≡ Some y → is_sum (expression y) ≡ true
+SumsOnly x = (known : Known) (y : Expr) → named_expr known x ≡ Some y → is_sum (expression y) ≡ true
 
 abbrev IsSumOf : Expr → Type 0
 IsSumOf y = is_sum (expression y) ≡ true
@@ -84,16 +102,18 @@ by_sum (Some x) None y p q h = absurd (cc)
 by_sum None b y p q h = absurd (cc)
 
 int_only : (i : _) → SumsOnly (e.Int i)
-int_only i occ kids y h =
+int_only i known y h =
     let k = simp named_expr_equations at h in let same : v.Int i ≡ y = cc in subst IsSumOf same (simp expression_equations refl)
 
 reference_only : (name : Name) (a : Option Name) → SumsOnly (reference name a)
-reference_only name None occ kids y h = by_either kids name (occurrence_number occ None name) y (simp named_expr_equations at h)
-reference_only name (Some a) occ kids y h = by_occurrence (occurrence_number occ (Some name) a) y (simp named_expr_equations at h)
+reference_only name None known y h =
+    by_either known.kids name (occurrence_number known.occurrences None name) y (simp named_expr_equations at h)
+reference_only name (Some a) known y h =
+    by_occurrence (occurrence_number known.occurrences (Some name) a) y (simp named_expr_equations at h)
 
 sum_only : (a b : RawExpr) → SumsOnly a → SumsOnly b → SumsOnly (e.Op op.Add a b)
-sum_only a b p q occ kids y h =
-    by_sum (named_expr occ kids a) (named_expr occ kids b) y (p occ kids) (q occ kids) (simp named_expr_equations at h)
+sum_only a b p q known y h =
+    by_sum (named_expr known a) (named_expr known b) y (p known) (q known) (simp named_expr_equations at h)
 
 atom_only : (u : List Lexeme) (x : RawExpr) → IsAtom u x → SumsOnly x
 atom_only u x (inl d) = subst SumsOnly (sym d.5.1) (int_only d.2)
@@ -111,9 +131,13 @@ sums_only u x d =
 
 -- ---- equations and productions
 
--- whatever equation it is, its expression is a sum
+abbrev is_equation_of_sum : Equation → Bool
+is_equation_of_sum y = is_sum (expression y.expr)
+
+-- whatever equation it is, its expression is a sum, and it declares nothing
 abbrev ItemIsSum : RawItem → Type 0
-ItemIsSum i = (occ : List Called) (kids : List Kid) (y : Equation) → named_equation occ kids i ≡ Some y → IsSumOf y.expr
+ItemIsSum i =
+    ((known : Known) → AllByRecursion (Passes is_equation_of_sum) (named_equation known i)) × ((sorts : List RawSort) → named_extra sorts i ≡ [])
 
 by_equation : (target : Option ℕ) (o : Option Expr) (y : Equation) → ((x : Expr) → o ≡ Some x → IsSumOf x) →
     option_and_then (λ (n : ℕ). option_map (λ (x : Expr). let q : Equation = record { target = n; expr = x } in q) o) target ≡ Some y → IsSumOf y.expr
@@ -123,7 +147,8 @@ by_equation (Some n) None y p h = absurd (cc)
 by_equation None o y p h = absurd (cc)
 
 own_is_sum : (name : Name) (x : RawExpr) → SumsOnly x → ItemIsSum (item.Own name x)
-own_is_sum name x p occ kids y h = by_equation (occurrence_number occ None name) (named_expr occ kids x) y (p occ kids) h
+own_is_sum name x p =
+    (λ known. (λ y h. by_equation (occurrence_number known.occurrences None name) (named_expr known x) y (p known) h, tt), λ sorts. refl)
 
 equation_is_sum : (u : List Lexeme) (i : RawItem) → IsEquation u i → ItemIsSum i
 equation_is_sum u i d = let sum = d.5.5 in subst ItemIsSum (sym sum.5.5.1) (own_is_sum d.2 sum.2 (sums_only _ sum.2 sum.4))
@@ -147,27 +172,45 @@ prods_are_plain : (u : List Lexeme) (ps : List RawProd) → Many IsProd u ps →
 prods_are_plain u [] d = tt
 prods_are_plain u (p ∷ ps) d = (prod_is_plain _ p d.3, prods_are_plain d.1 ps d.4)
 
-by_equations : (name : List ℕ) (left : ℕ) (kids : List Kid) (o : Option (List Equation)) (q : Production) →
-    ((es : List Equation) → o ≡ Some es → list_all (λ (e : Equation). is_sum (expression e.expr)) es ≡ true) →
-    option_map (λ (es : List Equation). let r : Production = record { name = name; left = left; kids = kids; extras = []; equations = es; pattern = None } in r) o ≡ Some q → is_plain_production q ≡ true
-by_equations name left kids (Some es) q p h =
-    let r : Production = record { name = name; left = left; kids = kids; extras = []; equations = es; pattern = None } in
+equations_pass : (known : Known) (is : List RawItem) → AllByRecursion ItemIsSum is → AllByRecursion (λ (i : RawItem). AllByRecursion (Passes is_equation_of_sum) (named_equation known i)) is
+equations_pass known [] all = tt
+equations_pass known (i ∷ is) all = (all.0.0 known, equations_pass known is all.1)
+
+none_declared : (sorts : List RawSort) (is : List RawItem) → AllByRecursion ItemIsSum is → flat_map (named_extra sorts) is ≡ []
+none_declared sorts [] all = refl
+none_declared sorts (i ∷ is) all = ap (λ l. l ++ flat_map (named_extra sorts) is) (all.0.1 sorts) ∙ none_declared sorts is all.1
+
+no_extras : (sorts : List RawSort) (is : List RawItem) → AllByRecursion ItemIsSum is → (xs : List Extra) → named_extras sorts is ≡ Some xs → xs ≡ []
+no_extras sorts is all xs h =
+    let none : each_some (flat_map (named_extra sorts) is) ≡ Some [] = ap each_some (none_declared sorts is all) in
+    let same : Some [] ≡ Some xs = sym none ∙ h in cc
+
+by_equations : (name : List ℕ) (left : ℕ) (kids : List Kid) (extras : List Extra) (o : Option (List Equation)) (text : Option (Option (List Piece))) (q : Production) →
+    ((es : List Equation) → o ≡ Some es → list_all is_equation_of_sum es ≡ true) → extras ≡ [] →
+    option_and_then (λ (es : List Equation). option_map (λ (pattern : Option (List Piece)). let r : Production = record { name = name; left = left; kids = kids; extras = extras; equations = es; pattern = pattern } in r) text) o ≡ Some q → is_plain_production q ≡ true
+by_equations name left kids [] (Some es) (Some pattern) q p e h =
+    let r : Production = record { name = name; left = left; kids = kids; extras = []; equations = es; pattern = pattern } in
     let same : r ≡ q = cc in subst (λ (z : Production). is_plain_production z ≡ true) same (p es refl)
-by_equations name left kids None q p h = absurd (cc)
+by_equations name left kids [] (Some es) None q p e h = absurd (cc)
+by_equations name left kids [] None text q p e h = absurd (cc)
+by_equations name left kids (x ∷ xs) o text q p e h = absurd (cc)
 
-with_is_plain : (sorts : List Sort) (p : RawProd) (left : ℕ) (kids : List Kid) (q : Production) → ProdIsPlain p → named_with sorts p left kids ≡ Some q → is_plain_production q ≡ true
-with_is_plain sorts p left kids q h e =
-    by_equations p.name left kids (each_some (map (named_equation (called_occurrences sorts left kids) kids) p.items)) q
-    (each_passes (named_equation (called_occurrences sorts left kids) kids) ItemIsSum (λ (x : Equation). is_sum (expression x.expr)) (λ i s y k. s (called_occurrences sorts left kids) kids y k) p.items h) e
+with_is_plain : (raw : List RawProd) (sorts : List Sort) (p : RawProd) (left : ℕ) (kids : List Kid) (extras : List Extra) (q : Production) → ProdIsPlain p → extras ≡ [] → named_with raw sorts p left kids extras ≡ Some q → is_plain_production q ≡ true
+with_is_plain raw sorts p left kids extras q h none e =
+    let known : Known = record { prods = raw; occurrences = called_occurrences sorts left kids extras; kids = kids } in
+    by_equations p.name left kids extras (named_equations known p.items) (named_pattern kids p.items) q
+    (all_pass is_equation_of_sum (flat_map (named_equation known) p.items) (all_parts (named_equation known) (Passes is_equation_of_sum) p.items (equations_pass known p.items h))) none e
 
-by_left : (sorts : List Sort) (p : RawProd) (left : Option ℕ) (kids : Option (List Kid)) (q : Production) → ProdIsPlain p →
-    option_and_then (λ (l : ℕ). option_and_then (named_with sorts p l) kids) left ≡ Some q → is_plain_production q ≡ true
-by_left sorts p (Some l) (Some ks) q h e = with_is_plain sorts p l ks q h e
-by_left sorts p (Some l) None q h e = absurd (cc)
-by_left sorts p None kids q h e = absurd (cc)
+by_left : (raw : List RawProd) (sorts : List Sort) (p : RawProd) (left : Option ℕ) (kids : Option (List Kid)) (extras : Option (List Extra)) (q : Production) → ProdIsPlain p → ((xs : List Extra) → extras ≡ Some xs → xs ≡ []) →
+    option_and_then (λ (l : ℕ). option_and_then (λ (ks : List Kid). option_and_then (named_with raw sorts p l ks) extras) kids) left ≡ Some q → is_plain_production q ≡ true
+by_left raw sorts p (Some l) (Some ks) (Some xs) q h none e = with_is_plain raw sorts p l ks xs q h (none xs refl) e
+by_left raw sorts p (Some l) (Some ks) None q h none e = absurd (cc)
+by_left raw sorts p (Some l) None extras q h none e = absurd (cc)
+by_left raw sorts p None kids extras q h none e = absurd (cc)
 
-production_is_plain : (raw : List RawSort) (sorts : List Sort) (p : RawProd) → ProdIsPlain p → (q : Production) → named_production raw sorts p ≡ Some q → is_plain_production q ≡ true
-production_is_plain raw sorts p h q e = by_left sorts p (sort_number raw p.left) (each_some (map (named_kid raw) p.kids)) q h e
+production_is_plain : (raw : RawGrammar) (sorts : List Sort) (p : RawProd) → ProdIsPlain p → (q : Production) → named_production raw sorts p ≡ Some q → is_plain_production q ≡ true
+production_is_plain raw sorts p h q e =
+    by_left raw.prods sorts p (sort_number raw.sorts p.left) (each_some (map (named_kid raw.sorts) p.kids)) (named_extras raw.sorts p.items) q h (no_extras raw.sorts p.items h) e
 
 -- ---- sorts
 
@@ -247,9 +290,9 @@ grammar_is_plain u raw d =
 
 named_is_plain : (raw : RawGrammar) → SortIsPlainEach raw.sorts → ProdIsPlainEach raw.prods → (g : Grammar) → named_grammar raw ≡ Some g → is_plain g ≡ true
 named_is_plain raw p q g h =
-    by_sorts (each_some (map (named_sort raw.sorts) raw.sorts)) (λ ss. each_some (map (named_production raw.sorts ss) raw.prods)) (sort_number raw.sorts raw.start) g
+    by_sorts (each_some (map (named_sort raw.sorts) raw.sorts)) (λ ss. each_some (map (named_production raw ss) raw.prods)) (sort_number raw.sorts raw.start) g
     (each_passes (named_sort raw.sorts) SortIsPlain HasPlainAttrs (sort_named raw.sorts) raw.sorts p)
-    (λ ss. each_passes (named_production raw.sorts ss) ProdIsPlain is_plain_production (production_is_plain raw.sorts ss) raw.prods q) h
+    (λ ss. each_passes (named_production raw ss) ProdIsPlain is_plain_production (production_is_plain raw ss) raw.prods q) h
 
 -- the grammar of a job is plain
 job_is_plain : (u : List Lexeme) (job : Job) → IsJob u job → (g : Grammar) → named_grammar job.grammar ≡ Some g → is_plain g ≡ true

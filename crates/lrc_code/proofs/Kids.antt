@@ -75,8 +75,8 @@ int-cell t i z e f = ap number f ∙ sym (ap tree_cell (ap tree e ∙ tree-Int i
 pub bool-cell : (t : Term) (b : Bool) → t ≡ v.Bool b → truth_cell b ≡ tree_cell (tree t)
 bool-cell t b e = sym (ap tree_cell (ap tree e ∙ tree-Bool b))
 
-pub name-cell : (t : Term) (n : List ℕ) → t ≡ v.Name n → name_cell n ≡ tree_cell (tree t)
-name-cell t n e = sym (ap tree_cell (ap tree e ∙ tree-Name n))
+pub name-cell : (t : Term) (n read : List ℕ) → t ≡ v.Name n → read ≡ n → name_cell read ≡ tree_cell (tree t)
+name-cell t n read e same = ap name_cell same ∙ sym (ap tree_cell (ap tree e ∙ tree-Name n))
 
 pub node-cell : (t : Term) (p : ℕ) (kids read : List Term) → t ≡ v.Node p kids → read ≡ kids → node_cell p (terms_cell read) ≡ tree_cell (tree t)
 node-cell t p kids read e same = ap (λ terms. node_cell p (terms_cell terms)) same ∙ sym (ap tree_cell (ap tree e ∙ tree-Node p kids))

@@ -66,7 +66,7 @@ pub fn put_term<St: Store>(store: &mut St, term: &Term) -> Result<Handle, Full>
     match term {
         Term::Int(value) => put_number(store, *value),
         Term::Bool(b) => put_bool(store, *b),
-        Term::Name(name) => put_name(store, name),
+        Term::Name(name) => put_name(store, name.get()),
         Term::Node(production, kids) => {
             let terms = kids.as_slice();
             let mut list = nil_in(store);

@@ -56,11 +56,11 @@ fn kids_replaced(
 ) -> Result<List<Term>, Memory>
     ensures { IfOk result (λ copies. row (map tree copies) ≡ replaced_among (row (map tree kids.now)) step steps.now (tree with.now)) }
 {
-    let mut copies = List::new(alloc);
+    let mut copies = Vec::with_capacity(alloc, kids.len())?;
     for (at, kid) in kids.iter().enumerate() {
         copies.push(kid_replaced(alloc, kid, at == step as usize, steps, with)?)?;
     }
-    Ok(copies)
+    Ok(List::from_vec(copies))
 }
 
 /// A copy of the term with `with` at the place; a plain copy where there is no such place.

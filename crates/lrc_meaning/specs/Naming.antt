@@ -1,14 +1,14 @@
 -- From names to numbers: the grammar and the tree that are written.
---
--- Of the items of a production, equations of left attributes are read, and of expressions numbers, references and
--- operators; the other forms are not read yet, and stand for nothing here.
 use Rattle.std.specs.Prelude.{ℕ, Bool, true, false, List, [], ◌∷◌, ◌++◌, map, flat_map, position, Option, Some, None, option_map, option_and_then, bytes_eq, ◌&&◌, cond}
 use Rattle.lrc_base.specs.declared.grammar.Kind.{Kind}
 use Rattle.lrc_base.specs.declared.grammar.Kind.TheVariants as k
 use Rattle.lrc_base.specs.declared.grammar.Attr.{Attr}
 use Rattle.lrc_base.specs.declared.grammar.Sort.{Sort}
 use Rattle.lrc_base.specs.declared.grammar.Kid.{Kid}
+use Rattle.lrc_base.specs.declared.grammar.Extra.{Extra}
 use Rattle.lrc_base.specs.declared.grammar.Equation.{Equation}
+use Rattle.lrc_base.specs.declared.grammar.Piece.{Piece}
+use Rattle.lrc_base.specs.declared.grammar.Piece.TheVariants as piece
 use Rattle.lrc_base.specs.declared.grammar.Production.{Production}
 use Rattle.lrc_base.specs.declared.expr.Expr.{Expr}
 use Rattle.lrc_base.specs.declared.expr.Expr.TheVariants as e
@@ -17,6 +17,8 @@ use Rattle.lrc_base.specs.declared.raw.RawKind.TheVariants as rk
 use Rattle.lrc_base.specs.declared.raw.RawAttr.{RawAttr}
 use Rattle.lrc_base.specs.declared.raw.RawSort.{RawSort}
 use Rattle.lrc_base.specs.declared.raw.RawKid.{RawKid}
+use Rattle.lrc_base.specs.declared.raw.RawPiece.{RawPiece}
+use Rattle.lrc_base.specs.declared.raw.RawPiece.TheVariants as rp
 use Rattle.lrc_base.specs.declared.raw.RawItem.{RawItem}
 use Rattle.lrc_base.specs.declared.raw.RawItem.TheVariants as item
 use Rattle.lrc_base.specs.declared.raw.RawProd.{RawProd}
@@ -57,7 +59,22 @@ abbrev pub named_kid : List RawSort → RawKid → Option Kid
 named_kid sorts kid =
     option_map (λ kind. record { name = kid.name; kind = kind }) (named_kind sorts kid.kind)
 
--- what an occurrence is called: the symbol that it belongs to, none for the left side, and the attribute
+-- the local or nonterminal attribute that an item declares
+abbrev pub named_extra : List RawSort → RawItem → List (Option Extra)
+named_extra sorts (item.Local n kind x) =
+    option_map (λ found. record { name = n; attached = false; kind = found }) (named_kind sorts kind) ∷ []
+named_extra sorts (item.Attach n sort x) =
+    option_map (λ s. record { name = n; attached = true; kind = k.Sort s }) (sort_number sorts sort) ∷ []
+named_extra sorts (item.Own n x) = []
+named_extra sorts (item.OfKid c n x) = []
+named_extra sorts (item.Pattern pieces) = []
+
+-- the locals and nonterminal attributes of a production, in order of declaration
+abbrev pub named_extras : List RawSort → List RawItem → Option (List Extra)
+named_extras sorts items = each_some (flat_map (named_extra sorts) items)
+
+-- what an occurrence is called: the symbol that it belongs to, none for the left side and for the value of a local or
+-- nonterminal attribute, and the attribute
 pub record Called : Type 0 where
   pub owner : Option (List ℕ)
   pub called : List ℕ
@@ -68,10 +85,16 @@ called_own a = record { owner = None; called = a.name }
 abbrev pub called_of : List ℕ → Attr → Called
 called_of owner a = record { owner = Some owner; called = a.name }
 
+-- a value, and behind a nonterminal attribute's value the attributes of its tree
+abbrev pub called_extra : List Sort → Extra → List Called
+called_extra sorts x =
+    record { owner = None; called = x.name } ∷ cond x.attached (map (called_of x.name) (attrs_of sorts x.kind)) []
+
 -- what the occurrences of a production are called, by number
-abbrev pub called_occurrences : List Sort → ℕ → List Kid → List Called
-called_occurrences sorts left kids =
-    map called_own (attrs_of_sort sorts left) ++ flat_map (λ (kid : Kid). map (called_of kid.name) (attrs_of sorts kid.kind)) kids
+abbrev pub called_occurrences : List Sort → ℕ → List Kid → List Extra → List Called
+called_occurrences sorts left kids extras =
+    map called_own (attrs_of_sort sorts left)
+    ++ (flat_map (λ (kid : Kid). map (called_of kid.name) (attrs_of sorts kid.kind)) kids ++ flat_map (called_extra sorts) extras)
 
 abbrev pub same_owner : Option (List ℕ) → Option (List ℕ) → Bool
 same_owner None None = true
@@ -86,53 +109,100 @@ is_called owner n c = same_owner c.owner owner && bytes_eq c.called n
 abbrev pub occurrence_number : List Called → Option (List ℕ) → List ℕ → Option ℕ
 occurrence_number occurrences owner n = position (is_called owner n) occurrences
 
+-- the number of the child of this name
+abbrev pub kid_number : List Kid → List ℕ → Option ℕ
+kid_number kids n = position (λ (kid : Kid). bytes_eq kid.name n) kids
+
 -- the number of the leaf of this name
 abbrev pub leaf_number : List Kid → List ℕ → Option ℕ
 leaf_number kids n = position (λ (kid : Kid). bytes_eq kid.name n && cond (is_sort kid.kind) false true) kids
+
+-- the number of the first production that is written with this name
+abbrev pub written_number : List RawProd → List ℕ → Option ℕ
+written_number prods n = position (λ (p : RawProd). bytes_eq p.name n) prods
 
 abbrev pub or_leaf : List Kid → List ℕ → Option ℕ → Option Expr
 or_leaf kids n (Some i) = Some (e.Occ i)
 or_leaf kids n None = option_map e.Leaf (leaf_number kids n)
 
+-- the names that an expression of a production may use: productions, what its occurrences are called, its children
+pub record Known : Type 0 where
+  pub prods : List RawProd
+  pub occurrences : List Called
+  pub kids : List Kid
+
 -- one node of an expression, with the expressions of its parts in their places
-abbrev pub named_step : List Called → List Kid → RawExpr-F (Option Expr) → Option Expr
-named_step occurrences kids (RawExpr-F.Int i) = Some (e.Int i)
-named_step occurrences kids (RawExpr-F.Bool b) = None
-named_step occurrences kids (RawExpr-F.Name n) = None
-named_step occurrences kids (RawExpr-F.One n) = or_leaf kids n (occurrence_number occurrences None n)
-named_step occurrences kids (RawExpr-F.Two c a) = option_map e.Occ (occurrence_number occurrences (Some c) a)
-named_step occurrences kids (RawExpr-F.Op op a b) =
-    option_and_then (λ x. option_map (λ y. e.Op op x y) b) a
-named_step occurrences kids (RawExpr-F.If c a b) = None
-named_step occurrences kids (RawExpr-F.Make n args) = None
+abbrev pub named_step : Known → RawExpr-F (Option Expr) → Option Expr
+named_step known (RawExpr-F.Int i) = Some (e.Int i)
+named_step known (RawExpr-F.Bool b) = Some (e.Bool b)
+named_step known (RawExpr-F.Name n) = Some (e.Name n)
+named_step known (RawExpr-F.One n) = or_leaf known.kids n (occurrence_number known.occurrences None n)
+named_step known (RawExpr-F.Two c a) = option_map e.Occ (occurrence_number known.occurrences (Some c) a)
+named_step known (RawExpr-F.Op op a b) = option_and_then (λ x. option_map (λ y. e.Op op x y) b) a
+named_step known (RawExpr-F.If c a b) =
+    option_and_then (λ x. option_and_then (λ y. option_map (λ z. e.If x y z) b) a) c
+named_step known (RawExpr-F.Make n args) =
+    option_and_then (λ p. option_map (λ xs. e.Make p xs) (each_some args)) (written_number known.prods n)
 
 -- the expression that is written, by numbers
-unfoldable pub named_expr : List Called → List Kid → RawExpr → Option Expr
-named_expr occurrences kids = fold-RawExpr (Option Expr) (named_step occurrences kids)
+unfoldable pub named_expr : Known → RawExpr → Option Expr
+named_expr known = fold-RawExpr (Option Expr) (named_step known)
 
-abbrev pub named_equation : List Called → List Kid → RawItem → Option Equation
-named_equation occurrences kids (item.Local n kind x) = None
-named_equation occurrences kids (item.Attach n sort x) = None
-named_equation occurrences kids (item.Own n x) =
-    option_and_then (λ target. option_map (λ y. record { target = target; expr = y }) (named_expr occurrences kids x)) (occurrence_number occurrences None n)
-named_equation occurrences kids (item.OfKid c n x) = None
-named_equation occurrences kids (item.Pattern pieces) = None
+-- an equation of what is called so
+abbrev pub named_target : Known → Option (List ℕ) → List ℕ → RawExpr → Option Equation
+named_target known owner n x =
+    option_and_then (λ target. option_map (λ y. record { target = target; expr = y }) (named_expr known x)) (occurrence_number known.occurrences owner n)
 
--- a production whose left sort and children are known
-abbrev pub named_with : List Sort → RawProd → ℕ → List Kid → Option Production
-named_with sorts p left kids =
-    option_map (λ equations. record { name = p.name; left = left; kids = kids; extras = []; equations = equations; pattern = None })
-    (each_some (map (named_equation (called_occurrences sorts left kids) kids) p.items))
+-- the equation that an item is; a pattern is none
+abbrev pub named_equation : Known → RawItem → List (Option Equation)
+named_equation known (item.Local n kind x) = named_target known None n x ∷ []
+named_equation known (item.Attach n sort x) = named_target known None n x ∷ []
+named_equation known (item.Own n x) = named_target known None n x ∷ []
+named_equation known (item.OfKid c n x) = named_target known (Some c) n x ∷ []
+named_equation known (item.Pattern pieces) = []
 
-abbrev pub named_production : List RawSort → List Sort → RawProd → Option Production
+abbrev pub named_equations : Known → List RawItem → Option (List Equation)
+named_equations known items = each_some (flat_map (named_equation known) items)
+
+abbrev pub named_piece : List Kid → RawPiece → Option Piece
+named_piece kids (rp.Text bytes) = Some (piece.Text bytes)
+named_piece kids (rp.Kid n) = option_map piece.Kid (kid_number kids n)
+
+-- the pattern that an item is
+abbrev pub pattern_of : RawItem → List (List RawPiece)
+pattern_of (item.Local n kind x) = []
+pattern_of (item.Attach n sort x) = []
+pattern_of (item.Own n x) = []
+pattern_of (item.OfKid c n x) = []
+pattern_of (item.Pattern pieces) = pieces ∷ []
+
+-- the pattern among those that are written, where there is one at most
+abbrev pub only_pattern : List Kid → List (List RawPiece) → Option (Option (List Piece))
+only_pattern kids [] = Some None
+only_pattern kids (pieces ∷ []) = option_map (λ ps. Some ps) (each_some (map (named_piece kids) pieces))
+only_pattern kids (pieces ∷ (more ∷ rest)) = None
+
+abbrev pub named_pattern : List Kid → List RawItem → Option (Option (List Piece))
+named_pattern kids items = only_pattern kids (flat_map pattern_of items)
+
+-- a production whose left sort, children, locals and nonterminal attributes are known
+abbrev pub named_with : List RawProd → List Sort → RawProd → ℕ → List Kid → List Extra → Option Production
+named_with raw sorts p left kids extras =
+    option_and_then
+    (λ equations. option_map (λ pattern. record { name = p.name; left = left; kids = kids; extras = extras; equations = equations; pattern = pattern }) (named_pattern kids p.items))
+    (named_equations (record { prods = raw; occurrences = called_occurrences sorts left kids extras; kids = kids }) p.items)
+
+abbrev pub named_production : RawGrammar → List Sort → RawProd → Option Production
 named_production raw sorts p =
-    option_and_then (λ left. option_and_then (named_with sorts p left) (each_some (map (named_kid raw) p.kids))) (sort_number raw p.left)
+    option_and_then
+    (λ left. option_and_then (λ kids. option_and_then (named_with raw.prods sorts p left kids) (named_extras raw.sorts p.items)) (each_some (map (named_kid raw.sorts) p.kids)))
+    (sort_number raw.sorts p.left)
 
--- The grammar that is written, by numbers; none where a name is unknown.
+-- The grammar that is written, by numbers; none where a name is unknown, or where a production has two patterns.
 abbrev pub named_grammar : RawGrammar → Option Grammar
 named_grammar raw =
     option_and_then
-    (λ sorts. option_and_then (λ prods. option_map (λ start. record { sorts = sorts; prods = prods; start = start }) (sort_number raw.sorts raw.start)) (each_some (map (named_production raw.sorts sorts) raw.prods)))
+    (λ sorts. option_and_then (λ prods. option_map (λ start. record { sorts = sorts; prods = prods; start = start }) (sort_number raw.sorts raw.start)) (each_some (map (named_production raw sorts) raw.prods)))
     (each_some (map (named_sort raw.sorts) raw.sorts))
 
 -- the number of the first production of this name

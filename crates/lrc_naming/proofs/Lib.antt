@@ -1,3 +1,5 @@
 pub mod NamingLemmas
 pub mod ListLemmas
 pub mod OccurrenceLemmas
+pub mod PatternLemmas
+pub mod ProductionLemmas

@@ -1,29 +1,21 @@
 -- What the occurrences of a production are called, and how many there are.
-use Rattle.std.proofs.Common.{◌≡◌, ℕ, zero, suc, ◌+◌, ◌*◌, ◌<◌, ◌≤◌, List, [], ◌∷◌, ◌++◌, map, flat_map, length, get_or, take, Option, Some, None, refl, sym, ap, ◌∙◌, length-append, subst, arith, All}
+use Rattle.std.proofs.Common.{◌≡◌, ℕ, zero, suc, ◌+◌, ◌*◌, ◌≤◌, Bool, true, false, cond, List, [], ◌∷◌, ◌++◌, map, flat_map, length, count_by, Option, Some, None, refl, sym, ap, ◌∙◌, length-append, subst, arith, All}
 use Rattle.std.specs.Prelude.{option_map, option_and_then}
-use Rattle.std.proofs.lemmas.List.{length-map, flat_map_more, take_more}
+use Rattle.std.proofs.lemmas.List.{length-map}
+use Rattle.std.proofs.lemmas.List.Sums.{sum_by-cons}
 use Rattle.lrc_base.specs.declared.grammar.Kind.{Kind}
 use Rattle.lrc_base.specs.declared.grammar.Kind.TheVariants as k
 use Rattle.lrc_base.specs.declared.grammar.Attr.{Attr}
 use Rattle.lrc_base.specs.declared.grammar.Sort.{Sort}
 use Rattle.lrc_base.specs.declared.grammar.Kid.{Kid}
+use Rattle.lrc_base.specs.declared.grammar.Extra.{Extra}
+use Rattle.lrc_base.specs.declared.raw.RawItem.{RawItem}
+use Rattle.lrc_base.specs.declared.raw.RawItem.TheVariants as item
 use Rattle.lrc_base.specs.declared.raw.RawSort.{RawSort}
 use Rattle.lrc_meaning.specs.Grammar.{attrs_of_sort, attrs_of}
-use Rattle.lrc_meaning.specs.Naming.{Called, each_some, named_attr, named_sort, called_own, called_of, called_occurrences}
-use Rattle.lrc_naming.specs.Called.{called_by, HasFewAttrs}
-
--- what the occurrences of a child are called
-abbrev called_of_kid : List Sort → Kid → List Called
-called_of_kid sorts kid = map (called_of kid.name) (attrs_of sorts kid.kind)
-
-pub called_more : (sorts : List Sort) (kids : List Kid) (i : ℕ) (kid : Kid) (own called more : List Called) (attrs : List Attr) → i < length kids → kid ≡ get_or kids i kid →
-    called ≡ own ++ flat_map (called_of_kid sorts) (take i kids) → attrs ≡ attrs_of sorts kid.kind → more ≡ called ++ map (called_by (Some kid.name)) attrs →
-    more ≡ own ++ flat_map (called_of_kid sorts) (take (i + 1) kids)
-called_more sorts kids i kid own called more attrs lt is before attrs_are m =
-    m ∙ (ap (λ d. d ++ map (called_by (Some kid.name)) attrs) before
-    ∙ (ap (λ a. (own ++ flat_map (called_of_kid sorts) (take i kids)) ++ map (called_by (Some kid.name)) a) attrs_are
-    ∙ (flat_map_more (called_of_kid sorts) own (take i kids) kid
-    ∙ ap (λ l. own ++ flat_map (called_of_kid sorts) l) (ap (λ y. take i kids ++ y ∷ []) is ∙ sym (take_more kids i kid lt)))))
+use Rattle.lrc_meaning.specs.Limits.{is_declaration}
+use Rattle.lrc_meaning.specs.Naming.{each_some, named_attr, named_sort, named_extra, named_extras, called_own, called_of, called_extra, called_occurrences}
+use Rattle.lrc_naming.specs.Called.{called_of_kid, HasFewAttrs}
 
 few_of_sort : (sorts : List Sort) (s : ℕ) → All HasFewAttrs sorts → length (attrs_of_sort sorts s) ≤ 16
 few_of_sort [] s few = omega arith
@@ -42,11 +34,23 @@ few_of_kids sorts [] few = omega arith
 few_of_kids sorts (kid ∷ kids) few =
     omega (arith, length-append (map (called_of kid.name) (attrs_of sorts kid.kind)) (flat_map (called_of_kid sorts) kids), length-map (attrs_of sorts kid.kind) (called_of kid.name), few_of_kind sorts kid.kind few, few_of_kids sorts kids few)
 
--- at most 16 occurrences of the left side, and 16 of each child
-pub length-called_occurrences : (sorts : List Sort) (left : ℕ) (kids : List Kid) → All HasFewAttrs sorts →
-    length (called_occurrences sorts left kids) ≤ 16 + 16 * length kids
-length-called_occurrences sorts left kids few =
-    omega (arith, length-append (map called_own (attrs_of_sort sorts left)) (flat_map (called_of_kid sorts) kids), length-map (attrs_of_sort sorts left) called_own, few_of_sort sorts left few, few_of_kids sorts kids few)
+few_of_extra : (sorts : List Sort) (x : Extra) (attached : Bool) → All HasFewAttrs sorts →
+    length (cond attached (map (called_of x.name) (attrs_of sorts x.kind)) []) ≤ 16
+few_of_extra sorts x true few =
+    omega (arith, length-map (attrs_of sorts x.kind) (called_of x.name), few_of_kind sorts x.kind few)
+few_of_extra sorts x false few = omega arith
+
+few_of_extras : (sorts : List Sort) (extras : List Extra) → All HasFewAttrs sorts →
+    length (flat_map (called_extra sorts) extras) ≤ 17 * length extras
+few_of_extras sorts [] few = omega arith
+few_of_extras sorts (x ∷ extras) few =
+    omega (arith, length-append (called_extra sorts x) (flat_map (called_extra sorts) extras), few_of_extra sorts x x.attached few, few_of_extras sorts extras few)
+
+-- at most 16 occurrences of the left side, 16 of each child, and 17 of each local or nonterminal attribute
+pub length-called_occurrences : (sorts : List Sort) (left : ℕ) (kids : List Kid) (extras : List Extra) → All HasFewAttrs sorts →
+    length (called_occurrences sorts left kids extras) ≤ 16 + (16 * length kids + 17 * length extras)
+length-called_occurrences sorts left kids extras few =
+    omega (arith, length-append (map called_own (attrs_of_sort sorts left)) (flat_map (called_of_kid sorts) kids ++ flat_map (called_extra sorts) extras), length-append (flat_map (called_of_kid sorts) kids) (flat_map (called_extra sorts) extras), length-map (attrs_of_sort sorts left) called_own, few_of_sort sorts left few, few_of_kids sorts kids few, few_of_extras sorts extras few)
 
 -- a list that is named has as many items as before
 module _ {A : Type 0} where
@@ -62,6 +66,27 @@ module _ {A : Type 0} where
 
 pub length-named : {A B : Type 0} (f : A → Option B) (xs : List A) (ys : List B) → each_some (map f xs) ≡ Some ys → length ys ≡ length xs
 length-named f xs ys e = length-each_some (map f xs) ys e ∙ length-map xs f
+
+-- as many locals and nonterminal attributes as are declared
+one_declared : (sorts : List RawSort) (i : RawItem) → length (named_extra sorts i) ≡ cond (is_declaration i) 1 0
+one_declared sorts (item.Local n kind x) = refl
+one_declared sorts (item.Attach n sort x) = refl
+one_declared sorts (item.Own n x) = refl
+one_declared sorts (item.OfKid c n x) = refl
+one_declared sorts (item.Pattern pieces) = refl
+
+length-declared : (sorts : List RawSort) (items : List RawItem) → length (flat_map (named_extra sorts) items) ≡ count_by is_declaration items
+length-declared sorts [] = refl
+length-declared sorts (i ∷ items) =
+    length-append (named_extra sorts i) (flat_map (named_extra sorts) items)
+    ∙ (ap (λ n. n + length (flat_map (named_extra sorts) items)) (one_declared sorts i)
+    ∙ (ap (λ n. cond (is_declaration i) 1 0 + n) (length-declared sorts items)
+    ∙ sym (sum_by-cons (λ (j : RawItem). cond (is_declaration j) 1 0) i items)))
+
+pub length-named_extras : (sorts : List RawSort) (items : List RawItem) (extras : List Extra) → named_extras sorts items ≡ Some extras →
+    length extras ≡ count_by is_declaration items
+length-named_extras sorts items extras e =
+    length-each_some (flat_map (named_extra sorts) items) extras e ∙ length-declared sorts items
 
 few_in : (raw : List RawSort) (s : RawSort) (attrs : Option (List Attr)) (t : Sort) → length s.attrs ≤ 16 → attrs ≡ each_some (map (named_attr raw) s.attrs) →
     option_map (λ as'. record { name = s.name; attrs = as' }) attrs ≡ Some t → HasFewAttrs t

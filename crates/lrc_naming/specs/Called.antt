@@ -1,14 +1,21 @@
--- What the occurrences of a production are called.
-use Rattle.std.specs.Prelude.{ℕ, List, Option, Bool, true, false, bytes_eq, ◌&&◌, cond, ◌≤◌, length}
+-- What the occurrences of a production are called, and how many names there are.
+use Rattle.std.specs.Prelude.{ℕ, List, map, Option, Bool, true, false, bytes_eq, ◌&&◌, cond, ◌≤◌, ◌<◌, ◌^◌, length, count_by}
 use Rattle.lrc_base.specs.declared.grammar.Attr.{Attr}
 use Rattle.lrc_base.specs.declared.grammar.Sort.{Sort}
 use Rattle.lrc_base.specs.declared.grammar.Kid.{Kid}
+use Rattle.lrc_base.specs.declared.raw.RawProd.{RawProd}
 use Rattle.lrc_meaning.specs.Tree.{is_sort}
-use Rattle.lrc_meaning.specs.Naming.{Called}
+use Rattle.lrc_meaning.specs.Grammar.{attrs_of}
+use Rattle.lrc_meaning.specs.Limits.{is_declaration}
+use Rattle.lrc_meaning.specs.Naming.{Called, Known, called_of}
 
 -- an attribute of this owner, none for the left side
 abbrev pub called_by : Option (List ℕ) → Attr → Called
 called_by owner a = record { owner = owner; called = a.name }
+
+-- what the occurrences of a child are called
+abbrev pub called_of_kid : List Sort → Kid → List Called
+called_of_kid sorts kid = map (called_of kid.name) (attrs_of sorts kid.kind)
 
 -- a leaf of this name
 abbrev pub is_leaf_of : List ℕ → Kid → Bool
@@ -17,3 +24,14 @@ is_leaf_of n kid = bytes_eq kid.name n && cond (is_sort kid.kind) false true
 -- a sort of at most 16 attributes
 abbrev pub HasFewAttrs : Sort → Type 0
 HasFewAttrs s = length s.attrs ≤ 16
+
+-- a production of at most 8 children and 16 locals and nonterminal attributes
+pub record HasFewParts (p : RawProd) : Type 0 where
+  pub kids : length p.kids ≤ 8
+  pub locals : count_by is_declaration p.items ≤ 16
+
+-- names that can be numbered
+pub record IsCounted (known : Known) : Type 0 where
+  pub prods : length known.prods < 2 ^ 32
+  pub occurrences : length known.occurrences < 2 ^ 32
+  pub kids : length known.kids < 2 ^ 32

@@ -1,2 +1,3 @@
 pub mod Called
 pub mod Numbered
+pub mod Part

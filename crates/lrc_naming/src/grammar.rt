@@ -6,7 +6,7 @@ ghost use Rattle.lrc_naming.specs.Numbered.{grammar};
 
 use crate::kind::{named_sort, sort_number};
 use crate::production::named_production;
-use lrc_base::{List, Memory, Production, RawGrammar, RawProd, RawSort, Sort};
+use lrc_base::{List, Memory, Production, RawGrammar, RawSort, Sort};
 use std::alloc::Global;
 
 /// A grammar by numbers, not yet checked: its sorts, its productions, and the number of the start
@@ -34,17 +34,15 @@ fn named_sorts(alloc: Global, sorts: &[RawSort]) -> Result<Option<List<Sort>>, M
 
 fn named_productions(
     alloc: Global,
-    raw: &[RawSort],
+    raw: &RawGrammar,
     sorts: &[Sort],
-    prods: &[RawProd],
 ) -> Result<Option<List<Production>>, Memory>
-    requires sorts { length raw.now < 2 ^ 32 }
+    requires limits { KeepsLimits raw.now }
     requires attrs { All HasFewAttrs sorts.now }
-    requires kids { All (λ p. length p.kids ≤ 8) prods.now }
-    ensures { IfOk result (λ named. named ≡ each_some (map (named_production raw.now sorts.now) prods.now)) }
+    ensures { IfOk result (λ named. named ≡ each_some (map (named_production raw.now sorts.now) raw.now.prods)) }
 {
     let mut named = List::new(alloc);
-    for prod in prods {
+    for prod in raw.prods.as_slice() {
         let Some(one) = named_production(alloc, raw, sorts, prod)? else {
             return Ok(None);
         };
@@ -53,9 +51,8 @@ fn named_productions(
     Ok(Some(named))
 }
 
-/// The grammar that is written, by numbers; None where a name is unknown, or where a form stands
-/// that is not read yet: locals, nonterminal attributes, equations of a child's attribute,
-/// patterns, and of expressions truth values, names, choices and built trees.
+/// The grammar that is written, by numbers; None where a name is unknown, or where a production has
+/// two patterns.
 pub fn named_grammar(alloc: Global, raw: &RawGrammar) -> Result<Option<Numbered>, Memory>
     requires { KeepsLimits raw.now }
     ensures numbers { IfOk result (λ named. option_map grammar named ≡ named_grammar raw.now) }
@@ -67,8 +64,7 @@ pub fn named_grammar(alloc: Global, raw: &RawGrammar) -> Result<Option<Numbered>
     let Some(sorts) = named_sorts(alloc, raw_sorts)? else {
         return Ok(None);
     };
-    let Some(prods) = named_productions(alloc, raw_sorts, sorts.as_slice(), raw.prods.as_slice())?
-    else {
+    let Some(prods) = named_productions(alloc, raw, sorts.as_slice())? else {
         return Ok(None);
     };
     let Some(start) = sort_number(raw_sorts, raw.start) else {

@@ -2,12 +2,18 @@
 //! attribute and child by its number.
 #![tactic(auto)]
 
+mod equation;
 mod expr;
+mod extra;
 mod grammar;
 mod kind;
 mod occurrence;
+mod part;
+mod pattern;
 mod production;
+mod scope;
 mod tree;
+mod written;
 
 pub use grammar::{Numbered, named_grammar};
 pub use tree::named_tree;

@@ -1,15 +1,15 @@
-ghost use Rattle.std.specs.Prelude.{◌≡◌, ◌<◌, ◌^◌, ◌++◌, length, map, OnOk, IfOk};
+ghost use Rattle.std.specs.Prelude.{◌≡◌, ◌<◌, ◌^◌, ◌++◌, length, map, flat_map, OnOk, IfOk};
 ghost use Rattle.lrc_meaning.specs.Tree.{is_sort};
 ghost use Rattle.lrc_meaning.specs.Grammar.{attrs_of_sort, attrs_of};
-ghost use Rattle.lrc_meaning.specs.Naming.{same_owner, is_called, called_occurrences, occurrence_number, leaf_number};
-ghost use Rattle.lrc_naming.specs.Called.{called_by, is_leaf_of};
+ghost use Rattle.lrc_meaning.specs.Naming.{same_owner, is_called, called_extra, called_occurrences, occurrence_number, leaf_number};
+ghost use Rattle.lrc_naming.specs.Called.{called_by, called_of_kid, is_leaf_of};
 
-use lrc_base::{Attr, Kid, Kind, List, Memory, NameText, Sort};
+use lrc_base::{Attr, Extra, Kid, Kind, List, Memory, NameText, Sort};
 use std::alloc::Global;
 use std::marker::Model;
 
-/// What an occurrence is called: the symbol that it belongs to, None for the left side, and the
-/// attribute.
+/// What an occurrence is called: the symbol that it belongs to, None for the left side and for the
+/// value of a local or nonterminal attribute, and the attribute.
 #[derive(Debug, Drop)]
 pub struct OccurrenceName {
     owner: Option<NameText>,
@@ -83,21 +83,65 @@ fn push_called(
     Ok(())
 }
 
+fn push_called_kids(
+    called: &mut List<OccurrenceName>,
+    sorts: &[Sort],
+    kids: &[Kid],
+) -> Result<(), Memory>
+    ensures { OnOk result (called.new ≡ called.old ++ flat_map (called_of_kid sorts.now) kids.now) }
+{
+    for kid in kids {
+        push_called(called, Some(kid.name), attrs_of(sorts, kid.kind))?;
+    }
+    Ok(())
+}
+
+/// The value, and behind a nonterminal attribute's value the attributes of its tree.
+fn push_called_extra(
+    called: &mut List<OccurrenceName>,
+    sorts: &[Sort],
+    extra: &Extra,
+) -> Result<(), Memory>
+    ensures { OnOk result (called.new ≡ called.old ++ called_extra sorts.now extra.now) }
+{
+    called.push(OccurrenceName {
+        owner: None,
+        attr: extra.name,
+    })?;
+    if extra.attached {
+        push_called(called, Some(extra.name), attrs_of(sorts, extra.kind))?;
+    }
+    Ok(())
+}
+
+fn push_called_extras(
+    called: &mut List<OccurrenceName>,
+    sorts: &[Sort],
+    extras: &[Extra],
+) -> Result<(), Memory>
+    ensures { OnOk result (called.new ≡ called.old ++ flat_map (called_extra sorts.now) extras.now) }
+{
+    for extra in extras {
+        push_called_extra(called, sorts, extra)?;
+    }
+    Ok(())
+}
+
 /// What the occurrences of a production are called, by number: the attributes of the left side,
-/// then those of each symbol among the children.
+/// those of each symbol among the children, and then locals and nonterminal attributes.
 pub fn called_occurrences(
     alloc: Global,
     sorts: &[Sort],
     left: u32,
     kids: &[Kid],
+    extras: &[Extra],
 ) -> Result<List<OccurrenceName>, Memory>
-    ensures { IfOk result (λ called. called ≡ called_occurrences sorts.now left kids.now) }
+    ensures { IfOk result (λ called. called ≡ called_occurrences sorts.now left kids.now extras.now) }
 {
     let mut called = List::new(alloc);
     push_called(&mut called, None, attrs_of_sort(sorts, left))?;
-    for kid in kids {
-        push_called(&mut called, Some(kid.name), attrs_of(sorts, kid.kind))?;
-    }
+    push_called_kids(&mut called, sorts, kids)?;
+    push_called_extras(&mut called, sorts, extras)?;
     Ok(called)
 }
 

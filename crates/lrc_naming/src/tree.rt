@@ -2,7 +2,7 @@ ghost use Rattle.std.specs.Prelude.{◌≡◌, ◌<◌, ◌≤◌, ◌^◌, leng
 ghost use Rattle.lrc_meaning.specs.Tree.{tree};
 ghost use Rattle.lrc_meaning.specs.Naming.{production_number, named_tree, each_some};
 
-use lrc_base::{List, Memory, NameText, Production, RawTerm, Term};
+use lrc_base::{Boxed, List, Memory, NameText, Production, RawTerm, Term};
 use std::alloc::Global;
 
 /// The number of the first production of this name.
@@ -35,7 +35,7 @@ pub fn named_tree(
     match raw {
         RawTerm::Int(value) => Ok(Some(Term::Int(*value))),
         RawTerm::Bool(value) => Ok(Some(Term::Bool(*value))),
-        RawTerm::Name(name) => Ok(Some(Term::Name(*name))),
+        RawTerm::Name(name) => Ok(Some(Term::Name(Boxed::new(alloc, *name)?))),
         RawTerm::Node(name, kids) => {
             let Some(number) = production_number(prods, *name) else {
                 return Ok(None);

@@ -70,7 +70,7 @@ pub returns-in-Bool-clause-builds : goal.returns-in-Bool-clause-builds
 returns-in-Bool-clause-builds g t c = builds-as _ _ _ _ _ (bool-cell c.args.term.now c.in-Bool.b c.in-Bool.is) c.put_bool.ensures.builds
 
 pub returns-in-Name-clause-builds : goal.returns-in-Name-clause-builds
-returns-in-Name-clause-builds g t c = builds-as _ _ _ _ _ (name-cell c.args.term.now c.in-Name.name c.in-Name.is) c.put_name.ensures.builds
+returns-in-Name-clause-builds g t c = builds-as _ _ _ _ _ (name-cell c.args.term.now c.in-Name.name c.get.result.now c.in-Name.is c.get.ensures) c.put_name.ensures.builds
 
 pub returns-after-loop-done-clause-builds : goal.returns-after-loop-done-clause-builds
 returns-after-loop-done-clause-builds g t c =

@@ -5,4 +5,4 @@ use Rattle.lrc_edit.proofs.replacing.+replacing.Given as goal
 
 -- the kids so far are copied, with the one that the step names replaced
 abbrev pub invariant-kids_replaced-loop-at : goal.invariant-kids_replaced-loop-at
-invariant-kids_replaced-loop-at l = map tree l.copies ≡ with_at (map tree (take l.at l.kids)) l.step l.steps (tree l.with)
+invariant-kids_replaced-loop-at l = map tree l.copies.items ≡ with_at (map tree (take l.at l.kids)) l.step l.steps (tree l.with)

@@ -1,4 +1,4 @@
-use Rattle.std.proofs.Common.{◌≤◌, length, All, subst, sym, ap, ◌∙◌, arith}
+use Rattle.std.proofs.Common.{◌≤◌, length, All, subst, sym, ◌∙◌, arith}
 use Rattle.lrc_base.specs.declared.raw.RawSort.{RawSort}
 use Rattle.lrc_meaning.specs.Naming.{named_production}
 use Rattle.lrc_naming.specs.Called.{HasFewAttrs}
@@ -13,4 +13,4 @@ named_productions-requires-clause-attrs c =
 
 pub returns-clause-within : goal.returns-clause-within
 returns-clause-within c =
-    omega (arith, c.requires.prods, ap length c.as_slice-2.ensures, length-named (named_production c.as_slice-raw_sorts.result.now c.as_slice.result.now) c.as_slice-2.result.now c.in-Some-2.prods (sym c.in_ok-prods.ensures ∙ c.in-Some-2.is))
+    omega (arith, c.requires.prods, length-named (named_production c.args.raw.now c.as_slice.result.now) c.args.raw.now.prods c.in-Some-2.prods (sym c.in_ok-prods.ensures ∙ c.in-Some-2.is))
