@@ -1,0 +1,62 @@
+ghost use Rattle.std.specs.Prelude.{◌≡◌};
+ghost use Rattle.lrc_lines.specs.Lines.{status_of};
+
+use lrc_base::NameText;
+use lrc_stub::{AcceptFault, JobFault};
+
+/// A cycle of dependencies: the production where it is, and the occurrence on it that is told.
+#[derive(Debug, Clone, Copy)]
+pub struct Cycle {
+    /// Whether the dependencies are the extended ones, and not the induced ones.
+    pub is_extended: bool,
+    pub production: NameText,
+    /// The symbol that the occurrence belongs to; None for an attribute of the left side, a local, and
+    /// the value of a nonterminal attribute.
+    pub owner: Option<NameText>,
+    pub occurrence: NameText,
+}
+
+/// Why the program did not do its work.
+#[derive(Debug, Clone, Copy)]
+pub enum Failure {
+    /// The words of the command line are not taken.
+    Usage,
+    /// The source failed.
+    Read,
+    /// The sink failed.
+    Write,
+    /// The input is no job.
+    Text(JobFault),
+    /// The job is not accepted.
+    Accept(AcceptFault),
+    /// The rows of all sessions are more than a table has.
+    TooManyRows,
+    /// The command takes one session, and the job has another number of them.
+    NotOneSession,
+    /// The job, or the command, is not built yet.
+    NotBuilt,
+    /// The grammar is not ordered.
+    NotOrdered(Cycle),
+    /// Want of memory.
+    Memory,
+}
+
+impl Failure {
+    /// The status with which the program ends.
+    pub fn status(&self) -> u8
+        ensures { result ≡ status_of self.now }
+    {
+        match self {
+            Failure::Usage => 2,
+            Failure::Read => 3,
+            Failure::Write => 4,
+            Failure::Text(_)
+            | Failure::Accept(_)
+            | Failure::TooManyRows
+            | Failure::NotOneSession
+            | Failure::NotBuilt => 5,
+            Failure::NotOrdered(_) => 6,
+            Failure::Memory => 7,
+        }
+    }
+}
