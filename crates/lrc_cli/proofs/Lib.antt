@@ -1,8 +1,4 @@
 pub mod TextLemmas
-pub mod LineLemmas
-pub mod StatusLemmas
-pub mod FaultLemmas
+pub mod TopLemmas
+pub mod PlacedLemmas
 pub mod RunLemmas
-pub mod OneLemmas
-pub mod PlainLemmas
-pub mod LimitLemmas

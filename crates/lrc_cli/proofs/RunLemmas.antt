@@ -1,69 +1,37 @@
--- From the parts of a job to the job that is built, and to the text of its run.
-use Rattle.std.proofs.Common.{◌≡◌, ℕ, List, [], ◌∷◌, map, option_map, sym, ap, subst, ◌∙◌}
-use Rattle.lrc_base.specs.declared.grammar.Attr.{Attr}
-use Rattle.lrc_base.specs.declared.job.Job.{Job}
+-- From a session that can be run to its replies.
+use Rattle.std.proofs.Common.{◌≡◌, Bool, true, false, ◌&&◌, IsTrue, List, [], ◌∷◌, subst, refl}
+use Rattle.std.specs.List.{list_all}
+use Rattle.std.proofs.lemmas.Bool.{and_parts}
+use Rattle.lrc_base.specs.declared.grammar.Production.{Production}
 use Rattle.lrc_base.specs.declared.job.Edit.{Edit}
-use Rattle.lrc_base.specs.declared.job.RawScript.{RawScript}
-use Rattle.lrc_base.specs.declared.raw.RawGrammar.{RawGrammar}
-use Rattle.lrc_meaning.specs.Tree.{Tree, tree}
-use Rattle.lrc_meaning.specs.Grammar.{Grammar, attrs_of_sort}
-use Rattle.lrc_meaning.specs.Accepted.{IsScriptOf}
-use Rattle.lrc_meaning.specs.Editing.{Change, change}
-use Rattle.lrc_meaning.specs.Text.{unparsed}
-use Rattle.lrc_reader.specs.Denotes.{Denotes}
-use Rattle.lrc_script.specs.declared.reply.Replies.{Replies}
-use Rattle.lrc_script.specs.Script.{reply_of, IsSessionOf}
-use Rattle.lrc_cli.specs.Headline.{HasNoScript, IsGrammarOf, IsBuilt, IsRunOf, depth_limit}
-use Rattle.lrc_cli.specs.Printed.{one_session}
-use Rattle.lrc_cli.proofs.TextLemmas.{run_text-one_session}
+use Rattle.lrc_base.specs.declared.job.Edit.TheVariants as edit
+use Rattle.lrc_base.specs.declared.job.Script.{Script}
+use Rattle.lrc_meaning.specs.Grammar.{Grammar}
+use Rattle.lrc_meaning.specs.Editing.{change}
+use Rattle.lrc_script.specs.Script.{is_fitting_put, are_fitting_puts}
+use Rattle.lrc_stub.specs.Stub.{is_fitting_edit, is_fitting_script}
+use Rattle.lrc_cli.specs.Headline.{is_put}
 
--- a text denotes at most one job
-abbrev pub OneJob : Type 0
-OneJob = (bytes : List ℕ) (job other : Job) → Denotes bytes job → Denotes bytes other → job ≡ other
+both : (a b : Bool) → a ≡ true → b ≡ true → (a && b) ≡ true
+both true b e f = f
+both false b e f = absurd (cc)
 
-pub no_job : (bytes : List ℕ) → ((job : Job) → ¬ Denotes bytes job) → (g : Grammar) (t : Tree) (cs : List Change) → ¬ IsBuilt bytes g t cs
-no_job bytes none g t cs b = none b.job b.denotes
+fitting_put : (prods : List Production) (e : Edit) → is_fitting_edit prods e ≡ true → is_put (change e) ≡ true → is_fitting_put prods e ≡ true
+fitting_put prods (edit.Put path kind term) fits put = fits
+fitting_put prods (edit.Copy from to) fits put = absurd (cc)
+fitting_put prods edit.Show fits put = absurd (cc)
+fitting_put prods (edit.Forget place) fits put = absurd (cc)
 
-pub no_script : OneJob → (bytes : List ℕ) (job : Job) → Denotes bytes job → HasNoScript job → (g : Grammar) (t : Tree) (cs : List Change) → ¬ IsBuilt bytes g t cs
-no_script one bytes job d none g t cs b =
-    none b.script (ap (λ (j : Job). j.sessions) (sym (one bytes b.job job b.denotes d)) ∙ b.one_session)
+each_fitting : (prods : List Production) (edits : List Edit) → list_all (is_fitting_edit prods) edits ≡ true → list_all (λ (e : Edit). is_put (change e)) edits ≡ true → list_all (is_fitting_put prods) edits ≡ true
+each_fitting prods [] fit put = refl
+each_fitting prods (e ∷ es) fit put =
+    let fits = and_parts (is_fitting_edit prods e) (list_all (is_fitting_edit prods) es) fit in
+    let puts = and_parts (is_put (change e)) (list_all (λ (x : Edit). is_put (change x)) es) put in
+    both _ _ (fitting_put prods e fits.0 puts.0) (each_fitting prods es fits.1 puts.1)
 
-pub no_grammar : OneJob → (bytes : List ℕ) (job : Job) → Denotes bytes job → ((g : Grammar) → ¬ IsGrammarOf job.grammar g) → (g : Grammar) (t : Tree) (cs : List Change) → ¬ IsBuilt bytes g t cs
-no_grammar one bytes job d none g t cs b =
-    none g (subst (λ (j : Job). IsGrammarOf j.grammar g) (one bytes b.job job b.denotes d) b.of_grammar)
-
-pub same_grammar : (raw : RawGrammar) (g h : Grammar) → IsGrammarOf raw g → IsGrammarOf raw h → g ≡ h
-same_grammar raw g h a b = let e = a.named in let f = b.named in cc
-
-pub same_script : (job : Job) (s r : RawScript) → job.sessions ≡ s ∷ [] → job.sessions ≡ r ∷ [] → s ≡ r
-same_script job s r e f = cc
-
-pub no_session : OneJob → (bytes : List ℕ) (job : Job) (script : RawScript) (grammar : Grammar) → Denotes bytes job → job.sessions ≡ script ∷ [] → IsGrammarOf job.grammar grammar →
-    ((t : Tree) (cs : List Change) → ¬ IsScriptOf grammar script t cs) → (g : Grammar) (t : Tree) (cs : List Change) → ¬ IsBuilt bytes g t cs
-no_session one bytes job script grammar d is gr none g t cs b =
-    let e : b.job ≡ job = one bytes b.job job b.denotes d in
-    let same : g ≡ grammar = same_grammar job.grammar g grammar (subst (λ (j : Job). IsGrammarOf j.grammar g) e b.of_grammar) gr in
-    let s : b.script ≡ script = same_script job b.script script (ap (λ (j : Job). j.sessions) (sym e) ∙ b.one_session) is in
-    none t cs (subst (λ (h : Grammar). IsScriptOf h script t cs) same (subst (λ (r : RawScript). IsScriptOf g r t cs) s b.of_script))
-
-pub built : (bytes : List ℕ) (job : Job) (script : RawScript) (g : Grammar) (t : Tree) (cs : List Change) → Denotes bytes job → job.sessions ≡ script ∷ [] →
-    IsGrammarOf job.grammar g → IsScriptOf g script t cs → IsBuilt bytes g t cs
-built bytes job script g t cs d is gr sc =
-    record { job = job; script = script; denotes = d; one_session = is; of_grammar = gr; of_script = sc }
-
-pub script_of_built : (bytes : List ℕ) (g : Grammar) (t : Tree) (cs : List Change) (b : IsBuilt bytes g t cs) → IsScriptOf g b.script t cs
-script_of_built bytes g t cs b = b.of_script
-
--- the text of the replies is that of the run
-pub run_of : (bytes text : List ℕ) (g : Grammar) (t : Tree) (edits : List Edit) (all : Replies) (attrs : List Attr) → IsBuilt bytes g t (map change edits) → IsSessionOf g depth_limit t edits all →
-    attrs ≡ attrs_of_sort g.sorts g.start → text ≡ one_session attrs all → IsRunOf bytes text
-run_of bytes text g t edits all attrs b s is e = record {
-  grammar = g;
-  opening = t;
-  changes = map change edits;
-  built = b;
-  replies = map reply_of all.replies;
-  last = option_map tree all.last;
-  runs = s (unparsed g.prods);
-  prints = e ∙ sym (run_text-one_session g attrs all b.of_grammar.well_formed is);
-}
+pub fitting_puts : (g : Grammar) (sessions : List Script) (script : Script) → sessions ≡ script ∷ [] → IsTrue (list_all (is_fitting_script g) sessions)
+    → IsTrue (list_all (λ (e : Edit). is_put (change e)) script.edits) → IsTrue (are_fitting_puts g.prods script.edits)
+fitting_puts g sessions script one fit puts =
+    let alone : list_all (is_fitting_script g) (script ∷ []) ≡ true = subst (λ (l : List Script). list_all (is_fitting_script g) l ≡ true) one fit in
+    let fits = and_parts (is_fitting_script g script) true alone in
+    each_fitting g.prods script.edits (and_parts _ (list_all (is_fitting_edit g.prods) script.edits) fits.0).1 puts

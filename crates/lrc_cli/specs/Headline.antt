@@ -1,46 +1,47 @@
 -- What a run is: from the bytes of a job to the text of its replies.
-use Rattle.std.specs.Prelude.{◌≡◌, ℕ, IsTrue, List, [], ◌∷◌, Option, Some}
+use Rattle.std.specs.Prelude.{◌≡◌, ℕ, Bool, true, false, IsTrue, List, [], ◌∷◌, map, Option}
+use Rattle.std.specs.List.{list_all}
 use Rattle.lrc_base.specs.declared.job.Job.{Job}
-use Rattle.lrc_base.specs.declared.job.RawScript.{RawScript}
-use Rattle.lrc_base.specs.declared.raw.RawGrammar.{RawGrammar}
-use Rattle.lrc_meaning.specs.Tree.{Tree}
-use Rattle.lrc_meaning.specs.Grammar.{Grammar, is_well_formed}
-use Rattle.lrc_meaning.specs.Naming.{named_grammar}
-use Rattle.lrc_meaning.specs.Accepted.{IsScriptOf}
-use Rattle.lrc_meaning.specs.Editing.{Change, Reply, ReplyRun, never_full}
+use Rattle.lrc_base.specs.declared.job.Script.{Script}
+use Rattle.lrc_meaning.specs.Tree.{Tree, tree}
+use Rattle.lrc_meaning.specs.Grammar.{Grammar}
+use Rattle.lrc_meaning.specs.Plain.{is_plain}
+use Rattle.lrc_meaning.specs.Editing.{Change, change, put, copy, show, forget, Reply, ReplyRun, never_full}
 use Rattle.lrc_meaning.specs.Text.{unparsed, run_text}
 use Rattle.lrc_reader.specs.Denotes.{Denotes}
+use Rattle.lrc_stub.specs.Stub.{Opened, IsAcceptedAs}
 
--- the most nodes on the longest path of a tree that has attributes
-abbrev pub depth_limit : ℕ
-depth_limit = 500
+-- the tree and the changes of a session
+abbrev pub session_of : Script → Opened
+session_of script = record { opening = tree script.tree; changes = map change script.edits }
 
--- the job has another number of sessions than one
-abbrev pub HasNoScript : Job → Type 0
-HasNoScript job = (s : RawScript) → job.sessions ≡ s ∷ [] → ⊥
-
--- the grammar that is written, which is well formed
-pub record IsGrammarOf (raw : RawGrammar) (grammar : Grammar) : Type 0 where
-  pub named : named_grammar raw ≡ Some grammar
-  pub well_formed : IsTrue (is_well_formed grammar)
-
--- The bytes are a job that is built, of this grammar and with one session, on this tree and with these edits.
-pub record IsBuilt (bytes : List ℕ) (grammar : Grammar) (opening : Tree) (changes : List Change) : Type 0 where
+-- The bytes are a job that is accepted, of this grammar and with these sessions.
+pub record IsAccepted (bytes : List ℕ) (grammar : Grammar) (sessions : List Opened) : Type 0 where
   pub job : Job
-  pub script : RawScript
   pub denotes : Denotes bytes job
-  pub one_session : job.sessions ≡ script ∷ []
-  pub of_grammar : IsGrammarOf job.grammar grammar
-  pub of_script : IsScriptOf grammar script opening changes
+  pub accepted : IsAcceptedAs job grammar sessions
 
--- The text is that of a run of the job: each reply is the root's synthesised attributes in an attribution of the
--- session's tree after the edit, or the refusal that the editing rules name, and then the final line of the last tree.
-pub record IsRunOf (bytes text : List ℕ) : Type 0 where
+abbrev pub is_put : Change → Bool
+is_put (put place kind new) = true
+is_put (copy from to) = false
+is_put show = false
+is_put (forget place) = false
+
+-- The job can be run: its grammar is plain, and it has one session, on this tree and with these edits, each a put.
+pub record IsBuilt (bytes : List ℕ) (grammar : Grammar) (opening : Tree) (changes : List Change) : Type 0 where
+  pub accepted : IsAccepted bytes grammar (record { opening = opening; changes = changes } ∷ [])
+  pub plain : IsTrue (is_plain grammar)
+  pub puts : IsTrue (list_all is_put changes)
+
+-- The text is that of a run of the job, whose trees have at most `depth` nodes on their longest path: each reply is the
+-- root's synthesised attributes in an attribution of the session's tree after the edit, or the refusal that the editing
+-- rules name, and then the final line of the last tree.
+pub record IsRunOf (bytes : List ℕ) (depth : ℕ) (text : List ℕ) : Type 0 where
   pub grammar : Grammar
   pub opening : Tree
   pub changes : List Change
   pub built : IsBuilt bytes grammar opening changes
   pub replies : List Reply
   pub last : Option Tree
-  pub runs : ReplyRun grammar depth_limit (unparsed grammar.prods) never_full opening changes replies last
+  pub runs : ReplyRun grammar depth (unparsed grammar.prods) never_full opening changes replies last
   pub prints : text ≡ run_text grammar (replies ∷ []) (last ∷ [])

@@ -1,7 +1,5 @@
-pub mod Words
-pub mod Faults
 pub mod Printed
-pub mod Line
 pub mod Headline
+pub mod Causes
+pub mod Running
 pub mod Status
-pub mod Taken

@@ -1,11 +1,18 @@
 -- What each status of the program says.
-use Rattle.std.specs.Prelude.{◌≡◌, ℕ, List, [], Option, Some, None, ⊤}
-use Rattle.std.specs.Io.KnownBytes.{Appends}
+use Rattle.std.specs.Prelude.{◌≡◌, ℕ, Bool, true, false, List, [], map, Option, Some, None, ⊤, String, string_bytes}
+use Rattle.std.specs.declared.alloc.Global.{Global}
+use Rattle.std.specs.Io.KnownBytes.{Appends, Keeps}
 use Rattle.lrc_meaning.specs.Tree.{Tree}
 use Rattle.lrc_meaning.specs.Grammar.{Grammar}
 use Rattle.lrc_meaning.specs.Editing.{Change}
 use Rattle.lrc_outside.specs.Known.{TakesUpTo, AppendsPart}
+use Rattle.lrc_words.specs.declared.command.Command.{Command}
+use Rattle.lrc_words.specs.declared.command.Verb.TheVariants as verb
+use Rattle.lrc_words.specs.CommandLine.{Says, texts}
+use Rattle.lrc_lines.specs.declared.failure.Failure.{Failure}
+use Rattle.lrc_lines.specs.declared.failure.Failure.TheVariants as f
 use Rattle.lrc_cli.specs.Headline.{IsBuilt, IsRunOf}
+use Rattle.lrc_cli.specs.Causes.{IsUnbuilt, IsCause}
 
 -- the most bytes that are read: one more than a job has
 abbrev pub input_limit : ℕ
@@ -16,29 +23,54 @@ abbrev pub IsReadWhole : Option (List ℕ) → Option (List ℕ) → List ℕ �
 IsReadWhole None after input = ⊤
 IsReadWhole (Some bytes) after input = (input ≡ bytes) × (after ≡ Some [])
 
--- Status 0: the source was read to its end, and the sink gained the text of a run of what was read.
-pub record Done (left left' held held' : Option (List ℕ)) : Type 0 where
+-- Status 0: the words ask for a run, the source was read to its end, and the sink gained the text of a run of what was
+-- read.
+pub record Done (words : List (String Global)) (left left' held held' : Option (List ℕ)) : Type 0 where
+  pub command : Command
+  pub says : Says (texts words) command
+  pub verb : command.verb ≡ verb.Run
   pub input : List ℕ
   pub text : List ℕ
   pub read : IsReadWhole left left' input
-  pub run : IsRunOf input text
+  pub run : IsRunOf input command.depth text
   pub written : Appends held held' text
 
 -- Status 4: as with status 0, but the sink gained a part of the text only, from its front.
-pub record Unwritten (left left' held held' : Option (List ℕ)) : Type 0 where
+pub record Unwritten (words : List (String Global)) (left left' held held' : Option (List ℕ)) : Type 0 where
+  pub command : Command
+  pub says : Says (texts words) command
+  pub verb : command.verb ≡ verb.Run
   pub input : List ℕ
   pub text : List ℕ
   pub read : IsReadWhole left left' input
-  pub run : IsRunOf input text
+  pub run : IsRunOf input command.depth text
   pub part : AppendsPart held held' text
 
--- Status 5: what was read, the whole or one byte more than a job has, is no job that is built.
-pub record Refused (left left' : Option (List ℕ)) : Type 0 where
-  pub input : List ℕ
-  pub read : TakesUpTo input_limit left left' input
-  pub not_built : (grammar : Grammar) (opening : Tree) (changes : List Change) → ¬ IsBuilt input grammar opening changes
+-- Statuses 5 and 6: the command is not built and nothing was read; or what was read, the whole or one byte more than a
+-- job has, is refused for a cause.
+pub data IsRefused (command : Command) (left left' : Option (List ℕ)) : Failure → Type 0 where
+  unread : IsUnbuilt command → Keeps left left' → IsRefused command left left' f.NotBuilt
+  read : (input : List ℕ) (failure : Failure) → TakesUpTo input_limit left left' input → IsCause command input failure → IsRefused command left left' failure
 
--- the source tells its bytes, and they are a job that is built
+pub record Refused (words : List (String Global)) (left left' : Option (List ℕ)) (failure : Failure) : Type 0 where
+  pub command : Command
+  pub says : Says (texts words) command
+  pub refused : IsRefused command left left' failure
+
+-- the source tells its bytes, and they are a job that can be run
 abbrev pub HoldsJob : Option (List ℕ) → Type 0
 HoldsJob None = ⊥
 HoldsJob (Some bytes) = (grammar : Grammar) × (opening : Tree) × (changes : List Change) × IsBuilt bytes grammar opening changes
+
+-- the fault is one of the input, and not of the words, of reading, of writing, or of memory
+abbrev pub is_refusal : Failure → Bool
+is_refusal f.Usage = false
+is_refusal f.Read = false
+is_refusal f.Write = false
+is_refusal (f.Text fault) = true
+is_refusal (f.Accept fault) = true
+is_refusal f.TooManyRows = true
+is_refusal f.NotOneSession = true
+is_refusal f.NotBuilt = true
+is_refusal (f.NotOrdered cycle) = true
+is_refusal f.Memory = false

@@ -1,13 +1,13 @@
 //! The program `lrc`: evaluates attribute grammars while trees are edited.
 #![tactic(auto)]
 
-mod failure;
+mod check;
+mod job;
 mod run;
 #[cfg(test)]
 mod tests;
 mod text;
 mod top;
-mod words;
 
 use lrc_outside::{ReadSource, WriteSink};
 use std::process::ExitCode;

@@ -1,112 +1,106 @@
-ghost use Rattle.std.specs.Prelude.{◌≡◌, ◌≤◌, ℕ, IsTrue, List, [], ◌∷◌, map, length, MatchOption, IfOk, IfSome};
-ghost use Rattle.lrc_base.specs.declared.job.Job.{Job};
-ghost use Rattle.lrc_meaning.specs.Grammar as meaning;
-ghost use Rattle.lrc_meaning.specs.Limits.{KeepsLimits};
-ghost use Rattle.lrc_meaning.specs.Tree.{Tree, tree};
+ghost use Rattle.std.specs.Prelude.{◌≡◌, ◌↔◌, ◌<◌, ◌*◌, ℕ, IsTrue, List, [], ◌∷◌, map, length, IfOk, IfErr, IfSome, MatchOption};
+ghost use Rattle.std.specs.List.{list_all};
+ghost use Rattle.lrc_base.specs.declared.job.Script as base;
+ghost use Rattle.lrc_base.specs.declared.job.Edit as base-edit;
+ghost use Rattle.lrc_meaning.specs.Plain.{is_plain};
+ghost use Rattle.lrc_meaning.specs.Tree.{Tree};
 ghost use Rattle.lrc_meaning.specs.Editing.{Change, change};
-ghost use Rattle.lrc_script.specs.Script.{are_fitting_puts};
 ghost use Rattle.lrc_grammar.specs.Grammar.{grammar_of};
-ghost use Rattle.lrc_reader.specs.Denotes.{Denotes};
-ghost use Rattle.lrc_cli.specs.Headline.{HasNoScript, IsGrammarOf, IsBuilt, IsRunOf};
+ghost use Rattle.lrc_stub.specs.Stub.{is_fitting_script};
+ghost use Rattle.lrc_words.specs.declared.command.Command.{Command};
+ghost use Rattle.lrc_words.specs.declared.command.Verb.TheVariants as v;
+ghost use Rattle.lrc_cli.specs.Headline.{session_of, is_put, IsAccepted, IsRunOf};
+ghost use Rattle.lrc_cli.specs.Causes.{row_limit, IsCause};
+ghost use Rattle.lrc_cli.specs.Running.{IsPlainSession};
 
+use crate::job::accepted_job;
 use crate::text::session_text;
-use lrc_accept::accepted;
-use lrc_base::{Job, Memory, RawGrammar, RawScript, Script};
-use lrc_grammar::{Grammar, attrs_of_sort};
-use lrc_naming::named_grammar;
-use lrc_reader::{JobFault, one_job, read_job};
+use lrc_base::{Edit, Memory, Script};
+use lrc_grammar::attrs_of_sort;
+use lrc_lines::Failure;
 use lrc_script::{one_session, replies};
-use std::alloc::{AllocError, Global};
+use lrc_stub::{Accepted, accepted_is_one};
+use lrc_words::Command;
+use std::alloc::Global;
 
-/// The most nodes on the longest path of a tree that is evaluated.
-const DEPTH_LIMIT: u32 = 500;
+/// The most rows of all sessions together.
+const ROW_LIMIT: u64 = 16_777_216;
 
-/// A grammar, and a session over it.
-#[derive(Drop)]
-struct Session {
-    grammar: Grammar,
-    script: Script,
+/// Whether sessions of so many rows each have more than a table has.
+fn are_rows_too_many(rows: u32, sessions: usize) -> bool
+    ensures { IsTrue result ↔ row_limit < rows * sessions }
+{
+    u64::from(rows).saturating_mul(sessions as u64) > ROW_LIMIT
 }
 
-/// The job that the bytes denote; None where they denote none.
-fn job_of(alloc: Global, bytes: &[u8]) -> Result<Option<Job>, Memory>
-    ensures denotes { IfOk result
-        (λ found. MatchOption found ((job : Job) → ¬ Denotes bytes.now job) (Denotes bytes.now)) }
-    ensures limits { IfOk result (λ found. IfSome found (λ job. KeepsLimits job.grammar)) }
+fn is_put(edit: &Edit) -> bool
+    ensures { result ≡ is_put (change edit.now) }
 {
-    match read_job(alloc, bytes) {
-        Ok(job) => Ok(Some(job)),
-        Err(JobFault::NotBuilt) => Ok(None),
-        Err(JobFault::Memory) => Err(AllocError),
+    matches!(edit, Edit::Put(..))
+}
+
+fn are_puts(edits: &[Edit]) -> bool
+    ensures { result ≡ list_all (λ (edit : base-edit.Edit). is_put (change edit)) edits.now }
+{
+    edits.iter().all(is_put)
+}
+
+/// The session of a job that can be run: there is no other, its edits are puts, and the grammar is
+/// plain.
+fn plain_session(accepted: &Accepted) -> Option<&Script>
+    ensures { MatchOption result ((script : base.Script) → ¬ IsPlainSession (grammar_of accepted.now.grammar) accepted.now.sessions script) (λ script. IsPlainSession (grammar_of accepted.now.grammar) accepted.now.sessions script.now) }
+{
+    let [script] = accepted.sessions.as_slice() else {
+        return None;
+    };
+    if accepted.grammar.is_plain() && are_puts(script.edits.as_slice()) {
+        Some(script)
+    } else {
+        None
     }
 }
 
-/// The one session of a job; None where it has another number of them.
-fn script_of(job: &Job) -> Option<&RawScript>
-    ensures { MatchOption result (HasNoScript job.now) (λ script. job.now.sessions ≡ script.now ∷ []) }
+/// The text of a run of a session.
+fn session_run(
+    alloc: Global,
+    accepted: &Accepted,
+    script: &Script,
+    depth: u32,
+) -> Result<Vec<u8>, Memory>
+    requires plain { IsPlainSession (grammar_of accepted.now.grammar) accepted.now.sessions script.now }
+    requires fitting { IsTrue (list_all (is_fitting_script (grammar_of accepted.now.grammar)) accepted.now.sessions) }
+    ensures { IfOk result (λ text. (bytes : List ℕ) → IsAccepted bytes (grammar_of accepted.now.grammar) (map session_of accepted.now.sessions) → IsRunOf bytes depth text.items) }
 {
-    match job.sessions.as_slice() {
-        [script] => Some(script),
-        _ => None,
-    }
-}
-
-/// The grammar that is written; None where a name is unknown, or where it is not well formed.
-#[tactic(auto, using(crate::proofs::LimitLemmas::limits_are_kept))]
-fn grammar_from(alloc: Global, raw: &RawGrammar) -> Result<Option<Grammar>, Memory>
-    requires { KeepsLimits raw.now }
-    ensures grammar { IfOk result
-        (λ found. MatchOption found ((g : meaning.Grammar) → ¬ IsGrammarOf raw.now g) (λ g. IsGrammarOf raw.now (grammar_of g))) }
-    ensures few { IfOk result (λ found. IfSome found (λ g. length g.prods ≤ 256)) }
-{
-    let Some(numbered) = named_grammar(alloc, raw)? else {
-        return Ok(None);
-    };
-    Grammar::new(alloc, numbered.sorts, numbered.prods, numbered.start)
-}
-
-/// The grammar and the session of a job; None where the bytes are no job that is built.
-fn session_from(alloc: Global, bytes: &[u8]) -> Result<Option<Session>, Memory>
-    ensures built { IfOk result
-        (λ found. MatchOption found ((g : meaning.Grammar) (t : Tree) (cs : List Change) → ¬ IsBuilt bytes.now g t cs) (λ s. IsBuilt bytes.now (grammar_of s.grammar) (tree s.script.tree) (map change s.script.edits))) }
-    ensures puts { IfOk result (λ found. IfSome found (λ s. IsTrue (are_fitting_puts s.grammar.prods s.script.edits))) }
-{
-    one_job();
-    let Some(job) = job_of(alloc, bytes)? else {
-        return Ok(None);
-    };
-    let Some(script) = script_of(&job) else {
-        return Ok(None);
-    };
-    let Some(grammar) = grammar_from(alloc, &job.grammar)? else {
-        return Ok(None);
-    };
-    let Some(script) = accepted(alloc, &grammar, script)? else {
-        return Ok(None);
-    };
-    Ok(Some(Session { grammar, script }))
-}
-
-/// The text of a run of a job; None where the bytes are no job that is built.
-pub fn run_text(alloc: Global, bytes: &[u8]) -> Result<Option<Vec<u8>>, Memory>
-    ensures { IfOk result
-        (λ o. MatchOption o ((g : meaning.Grammar) (t : Tree) (cs : List Change) → ¬ IsBuilt bytes.now g t cs) (λ text. IsRunOf bytes.now text.items)) }
-{
-    let Some(session) = session_from(alloc, bytes)? else {
-        return Ok(None);
-    };
-    let grammar = &session.grammar;
-    let replies = replies(alloc, grammar, &session.script, DEPTH_LIMIT)?;
+    let grammar = &accepted.grammar;
+    let replies = replies(alloc, grammar, script, depth)?;
     let attrs = attrs_of_sort(grammar.sorts.as_slice(), grammar.start);
-    let text = session_text(alloc, attrs, &replies)?;
-    Ok(Some(text))
+    session_text(alloc, attrs, &replies)
 }
 
-/// The text of a run is fixed by the bytes of the job: they denote one job, and its session has one
-/// list of replies.
-pub fn one_text()
-    ensures { (bytes text other : List ℕ) → IsRunOf bytes text → IsRunOf bytes other → text ≡ other }
+/// The text of a run of a job.
+///
+/// # Errors
+///
+/// The first fault of the job, then that there are too many rows, then that the job is not built.
+pub fn run_text(alloc: Global, command: &Command, bytes: &[u8]) -> Result<Vec<u8>, Failure>
+    requires { command.now.verb ≡ v.Run }
+    ensures text { IfOk result (λ text. IsRunOf bytes.now command.now.depth text.items) }
+    ensures cause { IfErr result (IsCause command.now bytes.now) }
 {
-    one_job();
+    accepted_is_one();
+    let accepted = accepted_job(alloc, bytes)?;
+    if are_rows_too_many(command.rows, accepted.sessions.len()) {
+        return Err(Failure::TooManyRows);
+    }
+    let script = plain_session(&accepted).ok_or(Failure::NotBuilt)?;
+    Ok(session_run(alloc, &accepted, script, command.depth)?)
+}
+
+/// The text of a run is fixed by the bytes of the job and the most nodes on a path: the bytes denote
+/// one job, and its session has one list of replies.
+pub fn one_text()
+    ensures { (bytes text other : List ℕ) (depth : ℕ) → IsRunOf bytes depth text → IsRunOf bytes depth other → text ≡ other }
+{
+    accepted_is_one();
     one_session();
 }

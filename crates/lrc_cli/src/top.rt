@@ -1,66 +1,108 @@
-ghost use Rattle.std.specs.Prelude.{◌≡◌, ℕ, List, ◌≢◌, ◌≤◌, ◌↔◌, ◌⊎◌, Ok, Err, OnOk};
+ghost use Rattle.std.specs.Prelude.{◌≡◌, ℕ, List, ◌≢◌, ◌≤◌, ◌⊎◌, ◌↔◌, false, IsTrue, None, Ok, Err, IfOk, IfErr, OnOk};
 ghost use Rattle.std.specs.Io.KnownBytes.{Keeps};
 ghost use Rattle.lrc_outside.specs.Count.{Rose};
-ghost use Rattle.lrc_cli.specs.Words.{IsRunCommand};
-ghost use Rattle.lrc_cli.specs.Faults.{status_of, line_of, IsStatus};
-ghost use Rattle.lrc_cli.specs.declared.failure.Failure.{Failure};
+ghost use Rattle.lrc_words.specs.declared.command.Command.{Command};
+ghost use Rattle.lrc_words.specs.declared.command.Verb.TheVariants as v;
+ghost use Rattle.lrc_words.specs.CommandLine.{Says, AreRefused, texts, verb_of};
+ghost use Rattle.lrc_lines.specs.Lines.{status_of, line_of, IsStatus};
+ghost use Rattle.lrc_lines.specs.Gains.{GainsLine};
+ghost use Rattle.lrc_lines.specs.declared.failure.Failure.{Failure};
+ghost use Rattle.lrc_lines.specs.declared.failure.Failure.TheVariants as f;
 ghost use Rattle.lrc_cli.specs.Headline.{IsRunOf};
-ghost use Rattle.lrc_cli.specs.Line.{GainsLine};
-ghost use Rattle.lrc_cli.specs.Status.{Done, Unwritten, Refused, HoldsJob};
+ghost use Rattle.lrc_cli.specs.Causes.{IsCause};
+ghost use Rattle.lrc_cli.specs.Status.{Done, Unwritten, Refused, HoldsJob, is_refusal};
 
-use crate::failure::Failure;
+use crate::check::check;
 use crate::run::{one_text, run_text};
-use crate::words::is_run_command;
-use lrc_outside::{Failed, Sink, Source, put_all, take_up_to};
+use lrc_lines::{Failure, put_line};
+use lrc_outside::{Sink, Source, put_all, take_up_to};
+use lrc_words::{Command, Verb, WordsFault, read_words};
 use std::alloc::Global;
 use std::thread::Threads;
 
 /// The most bytes that are read: one more than a job may have.
 const INPUT_LIMIT: usize = 16_777_217;
 
-/// Prints the line of a fault.
-fn put_line<E: Sink>(err: &mut E, failure: Failure) -> Result<(), Failed>
-    ensures line { GainsLine (E.held err.old) (E.held err.new) (E.faults err.old) (E.faults err.new) (line_of failure) }
-    ensures never_falls { E.faults err.old ≤ E.faults err.new }
-{
-    put_all(err, failure.words())?;
-    put_all(err, b"\n")
-}
-
-/// Reads a job, runs it, and writes the text of the run.
+/// What the words ask for.
 ///
 /// # Errors
 ///
-/// The first fault, in the order: words, reading, the job, memory, writing.
-fn run<S: Source, O: Sink>(
+/// Usage, where they are not taken or ask for nothing that is known, and want of memory.
+fn command_of(alloc: Global, words: &[String]) -> Result<Command, Failure>
+    ensures says { IfOk result (Says (texts words.now)) }
+    ensures usage { result ≡ Err f.Usage → AreRefused (texts words.now) ⊎ (verb_of (texts words.now) ≡ None) }
+    ensures fault { IfErr result (λ failure. (failure ≡ f.Usage) ⊎ (failure ≡ f.Memory)) }
+{
+    match read_words(alloc, words) {
+        Ok(command) => Ok(command),
+        Err(WordsFault::Usage) => Err(Failure::Usage),
+        Err(WordsFault::Memory) => Err(Failure::Memory),
+    }
+}
+
+/// Whether anything of a command is built.
+fn is_built(verb: Verb) -> bool
+    ensures { IsTrue result ↔ ((verb ≡ v.Run) ⊎ (verb ≡ v.Check)) }
+{
+    match verb {
+        Verb::Run | Verb::Check => true,
+        Verb::Solo | Verb::Plan | Verb::Gen => false,
+    }
+}
+
+/// What a command that is built prints for the input.
+///
+/// # Errors
+///
+/// The first fault of the job.
+fn output(alloc: Global, command: &Command, input: &[u8]) -> Result<Vec<u8>, Failure>
+    requires { (command.now.verb ≡ v.Run) ⊎ (command.now.verb ≡ v.Check) }
+    ensures verb { OnOk result (command.now.verb ≡ v.Run) }
+    ensures run { IfOk result (λ text. IsRunOf input.now command.now.depth text.items) }
+    ensures cause { IfErr result (IsCause command.now input.now) }
+{
+    match command.verb {
+        Verb::Run => run_text(alloc, command, input),
+        Verb::Check => Err(check(alloc, command, input)),
+        Verb::Solo | Verb::Plan | Verb::Gen => unreachable!(),
+    }
+}
+
+/// Reads a job, does what the words ask for, and writes the text of it.
+///
+/// # Errors
+///
+/// The first fault, in the order: words, reading, the job, memory, writing. A command of which nothing
+/// is built is refused before anything is read.
+fn answered<S: Source, O: Sink>(
     alloc: Global,
     words: &[String],
     source: &mut S,
     out: &mut O,
 ) -> Result<(), Failure>
-    ensures done { OnOk result (Done (S.left source.old) (S.left source.new) (O.held out.old) (O.held out.new)) }
-    ensures usage { (result ≡ Err Failure.Usage) ↔ ¬ IsRunCommand words.now }
-    ensures unread { result ≡ Err Failure.Usage → Keeps (S.left source.old) (S.left source.new) }
-    ensures read_fault { result ≡ Err Failure.Read → Rose (S.faults source.old) (S.faults source.new) }
-    ensures write_fault { result ≡ Err Failure.Write → Rose (O.faults out.old) (O.faults out.new) }
-    ensures part { result ≡ Err Failure.Write → Unwritten (S.left source.old) (S.left source.new) (O.held out.old) (O.held out.new) }
-    ensures refused { result ≡ Err Failure.NotBuilt → Refused (S.left source.old) (S.left source.new) }
-    ensures nothing_written { result ≢ Ok tt → result ≢ Err Failure.Write → Keeps (O.held out.old) (O.held out.new) }
+    ensures done { OnOk result (Done words.now (S.left source.old) (S.left source.new) (O.held out.old) (O.held out.new)) }
+    ensures usage { result ≡ Err f.Usage → AreRefused (texts words.now) ⊎ (verb_of (texts words.now) ≡ None) }
+    ensures unread { result ≡ Err f.Usage → Keeps (S.left source.old) (S.left source.new) }
+    ensures command { IfErr result (λ failure. failure ≢ f.Usage → failure ≢ f.Memory → (command : Command) × Says (texts words.now) command) }
+    ensures read_fault { result ≡ Err f.Read → Rose (S.faults source.old) (S.faults source.new) }
+    ensures write_fault { result ≡ Err f.Write → Rose (O.faults out.old) (O.faults out.new) }
+    ensures part { result ≡ Err f.Write → Unwritten words.now (S.left source.old) (S.left source.new) (O.held out.old) (O.held out.new) }
+    ensures refused { IfErr result (λ failure. IsTrue (is_refusal failure) → Refused words.now (S.left source.old) (S.left source.new) failure) }
+    ensures nothing_written { result ≢ Ok tt → result ≢ Err f.Write → Keeps (O.held out.old) (O.held out.new) }
     ensures source_count { S.faults source.old ≤ S.faults source.new }
     ensures out_count { O.faults out.old ≤ O.faults out.new }
 {
-    if !is_run_command(words) {
-        return Err(Failure::Usage);
+    let command = command_of(alloc, words)?;
+    if !is_built(command.verb) {
+        return Err(Failure::NotBuilt);
     }
     let input = take_up_to(alloc, source, INPUT_LIMIT)?;
-    let Some(text) = run_text(alloc, input.as_slice())? else {
-        return Err(Failure::NotBuilt);
-    };
+    let text = output(alloc, &command, input.as_slice())?;
     put_all(out, text.as_slice())?;
     Ok(())
 }
 
-/// Reads the words of a command line and a job, runs the job, and writes the text of the run; or
+/// Reads the words of a command line and a job, does what they ask for, and writes the text of it; or
 /// prints the line of the first fault. Answers the status with which the program ends.
 ///
 /// The session's opening and each of its edits are answered by the root's synthesised attributes in
@@ -73,21 +115,22 @@ pub fn lrc<R: Threads + Sync, S: Source, O: Sink, E: Sink>(
     out: &mut O,
     err: &mut E,
 ) -> u8
-    ensures done { result ≡ 0 → Done (S.left source.old) (S.left source.new) (O.held out.old) (O.held out.new) }
-    ensures one_text { (bytes text other : List ℕ) → IsRunOf bytes text → IsRunOf bytes other → text ≡ other }
-    ensures usage { (result ≡ 2) ↔ ¬ IsRunCommand words.now }
+    ensures done { result ≡ 0 → Done words.now (S.left source.old) (S.left source.new) (O.held out.old) (O.held out.new) }
+    ensures one_text { (bytes text other : List ℕ) (depth : ℕ) → IsRunOf bytes depth text → IsRunOf bytes depth other → text ≡ other }
+    ensures usage { result ≡ 2 → AreRefused (texts words.now) ⊎ (verb_of (texts words.now) ≡ None) }
     ensures unread { result ≡ 2 → Keeps (S.left source.old) (S.left source.new) }
+    ensures command { result ≢ 2 → result ≢ 7 → (command : Command) × Says (texts words.now) command }
     ensures read_fault { result ≡ 3 → Rose (S.faults source.old) (S.faults source.new) }
     ensures write_fault { result ≡ 4 → Rose (O.faults out.old) (O.faults out.new) }
-    ensures part { result ≡ 4 → Unwritten (S.left source.old) (S.left source.new) (O.held out.old) (O.held out.new) }
-    ensures refused { result ≡ 5 → Refused (S.left source.old) (S.left source.new) }
+    ensures part { result ≡ 4 → Unwritten words.now (S.left source.old) (S.left source.new) (O.held out.old) (O.held out.new) }
+    ensures refused { (result ≡ 5) ⊎ (result ≡ 6) → (failure : Failure) × (result ≡ status_of failure) × Refused words.now (S.left source.old) (S.left source.new) failure × GainsLine (E.held err.old) (E.held err.new) (E.faults err.old) (E.faults err.new) (line_of failure) }
     ensures statuses { IsStatus result }
-    ensures complete { IsRunCommand words.now → ¬ Rose (S.faults source.old) (S.faults source.new) → ¬ Rose (O.faults out.old) (O.faults out.new) → HoldsJob (S.left source.old) → (result ≡ 0) ⊎ (result ≡ 7) }
+    ensures complete { (command : Command) → Says (texts words.now) command → command.verb ≡ v.Run → ¬ Rose (S.faults source.old) (S.faults source.new) → ¬ Rose (O.faults out.old) (O.faults out.new) → HoldsJob (S.left source.old) → (result ≡ 0) ⊎ (result ≡ 7) }
 
     // Nothing is written before all is computed, and of a fault only its line.
     ensures nothing_written { result ≢ 0 → result ≢ 4 → Keeps (O.held out.old) (O.held out.new) }
     ensures no_line { result ≡ 0 → Keeps (E.held err.old) (E.held err.new) }
-    ensures line { (f : Failure) → result ≡ status_of f → GainsLine (E.held err.old) (E.held err.new) (E.faults err.old) (E.faults err.new) (line_of f) }
+    ensures line { (failure : Failure) → is_refusal failure ≡ false → result ≡ status_of failure → GainsLine (E.held err.old) (E.held err.new) (E.faults err.old) (E.faults err.new) (line_of failure) }
 
     // The counts of faults never fall.
     ensures source_count { S.faults source.old ≤ S.faults source.new }
@@ -95,10 +138,10 @@ pub fn lrc<R: Threads + Sync, S: Source, O: Sink, E: Sink>(
     ensures err_count { E.faults err.old ≤ E.faults err.new }
 {
     one_text();
-    match run(alloc, words, source, out) {
+    match answered(alloc, words, source, out) {
         Ok(()) => 0,
         Err(failure) => {
-            let _ = put_line(err, failure);
+            let _ = put_line(err, &failure);
             failure.status()
         }
     }

@@ -1,3 +1,4 @@
 pub mod Pieces
 pub mod Gains
 pub mod Lines
+pub mod Taken

@@ -1,7 +1,8 @@
 ghost use Rattle.std.specs.Prelude.{◌≡◌};
 ghost use Rattle.lrc_lines.specs.Lines.{status_of};
 
-use lrc_base::NameText;
+use lrc_base::{Memory, NameText};
+use lrc_outside::{Failed, TakeFault};
 use lrc_stub::{AcceptFault, JobFault};
 
 /// A cycle of dependencies: the production where it is, and the occurrence on it that is told.
@@ -57,6 +58,76 @@ impl Failure {
             | Failure::NotBuilt => 5,
             Failure::NotOrdered(_) => 6,
             Failure::Memory => 7,
+        }
+    }
+}
+
+impl From<TakeFault> for Failure {
+    ghost use Rattle.std.specs.Prelude.{◌≡◌};
+    ghost use Rattle.lrc_lines.specs.Taken.{failure_of};
+
+    ghost from_gives = { λ fault failure. failure ≡ failure_of fault };
+
+    fn from(fault: TakeFault) -> Failure {
+        match fault {
+            TakeFault::Failed => Failure::Read,
+            TakeFault::Memory => Failure::Memory,
+        }
+    }
+}
+
+impl From<Failed> for Failure {
+    ghost use Rattle.std.specs.Prelude.{◌≡◌};
+    ghost use Rattle.lrc_lines.specs.declared.failure.Failure.TheVariants.{Write};
+
+    ghost from_gives = { λ _ failure. failure ≡ Write };
+
+    fn from(_failed: Failed) -> Failure {
+        Failure::Write
+    }
+}
+
+impl From<Memory> for Failure {
+    ghost use Rattle.std.specs.Prelude.{◌≡◌};
+    ghost use Rattle.lrc_lines.specs.declared.failure.Failure.TheVariants as f;
+
+    ghost from_gives = { λ _ failure. failure ≡ f.Memory };
+
+    fn from(_memory: Memory) -> Failure {
+        Failure::Memory
+    }
+}
+
+impl From<JobFault> for Failure {
+    ghost use Rattle.std.specs.Prelude.{◌≡◌};
+    ghost use Rattle.lrc_lines.specs.Taken.{failure_of_text};
+
+    ghost from_gives = { λ fault failure. failure ≡ failure_of_text fault };
+
+    fn from(fault: JobFault) -> Failure {
+        match fault {
+            JobFault::TooLong
+            | JobFault::Lex(_)
+            | JobFault::Expected { .. }
+            | JobFault::LimitReached { .. }
+            | JobFault::NestedTooDeep { .. } => Failure::Text(fault),
+            JobFault::Memory => Failure::Memory,
+        }
+    }
+}
+
+impl From<AcceptFault> for Failure {
+    ghost use Rattle.std.specs.Prelude.{◌≡◌};
+    ghost use Rattle.lrc_lines.specs.Taken.{failure_of_job};
+
+    ghost from_gives = { λ fault failure. failure ≡ failure_of_job fault };
+
+    fn from(fault: AcceptFault) -> Failure {
+        match fault {
+            AcceptFault::Grammar(_) | AcceptFault::Term { .. } | AcceptFault::NotStart { .. } => {
+                Failure::Accept(fault)
+            }
+            AcceptFault::Memory => Failure::Memory,
         }
     }
 }

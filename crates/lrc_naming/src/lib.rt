@@ -16,6 +16,7 @@ mod tree;
 mod written;
 
 pub use grammar::{Numbered, named_grammar};
+pub use occurrence::{OccurrenceName, called_occurrences};
 pub use tree::named_tree;
 
 #[cfg(test)]

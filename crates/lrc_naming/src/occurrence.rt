@@ -34,6 +34,21 @@ impl OccurrenceName {
         }
     }
 
+    /// The symbol that the occurrence belongs to; None for an attribute of the left side, a local, and
+    /// the value of a nonterminal attribute.
+    pub fn owner(&self) -> Option<NameText>
+        ensures { result ≡ self.now.owner }
+    {
+        self.owner
+    }
+
+    /// The attribute, the local, or the nonterminal attribute.
+    pub fn attribute(&self) -> NameText
+        ensures { result ≡ self.now.called }
+    {
+        self.attr
+    }
+
     fn is_called(&self, owner: Option<NameText>, attr: NameText) -> bool
         ensures { result ≡ is_called owner attr self.now }
     {

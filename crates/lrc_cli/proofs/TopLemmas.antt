@@ -1,0 +1,173 @@
+-- Why an input is refused, and what is told of it.
+use Rattle.std.proofs.Common.{◌≡◌, ℕ, zero, suc, Bool, true, false, ◌<◌, ◌≤◌, List, length, take, Option, Some, None, Result, Ok, Err, OnOk, OnErr, IfErr, IsErrAnd, ◌⊎◌, inl, inr, ◌≢◌, refl, sym, arith, ap, ◌∙◌, subst, IsTrue}
+use Rattle.std.proofs.lemmas.List.{drop_all, take_all}
+use Rattle.std.proofs.lemmas.Grind.{common_steps}
+use Rattle.std.specs.Prelude.{String}
+use Rattle.std.specs.declared.alloc.Global.{Global}
+use Rattle.std.specs.Io.KnownBytes.{Appends, Keeps}
+use Rattle.lrc_outside.specs.Count.{Rose}
+use Rattle.lrc_outside.specs.Known.{TakesUpTo, AppendsPart}
+use Rattle.lrc_words.specs.declared.command.Command.{Command}
+use Rattle.lrc_words.specs.declared.command.Verb.TheVariants as verb
+use Rattle.lrc_words.specs.CommandLine.{Says, texts}
+use Rattle.lrc_lines.specs.declared.failure.Failure.{Failure}
+use Rattle.lrc_lines.specs.declared.failure.Failure.TheVariants as f
+use Rattle.lrc_lines.specs.Lines.{status_of, IsStatus}
+use Rattle.lrc_lines.specs.Gains.{Gains, GainsLine}
+use Rattle.lrc_base.specs.declared.job.Job.{Job}
+use Rattle.lrc_reader.specs.Denotes.{Denotes}
+use Rattle.lrc_stub.specs.declared.fault.JobFault.{JobFault}
+use Rattle.lrc_stub.specs.declared.fault.JobFault.TheVariants as text
+use Rattle.lrc_stub.specs.declared.fault.AcceptFault.{AcceptFault}
+use Rattle.lrc_stub.specs.declared.fault.AcceptFault.TheVariants as accept
+use Rattle.lrc_stub.specs.Stub.{IsTextFault, IsAcceptFault}
+use Rattle.lrc_lines.specs.Taken.{failure_of_text, failure_of_job}
+use Rattle.lrc_cli.specs.Headline.{IsBuilt, IsRunOf}
+use Rattle.lrc_cli.specs.Causes.{IsUnbuilt, IsCause, no_job, not_accepted, too_many_rows, no_run, no_partitions, not_ordered, no_memory}
+use Rattle.lrc_cli.specs.Status.{input_limit, IsReadWhole, Done, Unwritten, IsRefused, unread, read, Refused, HoldsJob, is_refusal}
+
+pub keeps_itself : (a : Option (List ℕ)) → Keeps a a
+keeps_itself None = tt
+keeps_itself (Some xs) = refl
+
+-- a command that is not built is refused before anything is read
+pub not_read : (words : List (String Global)) (left : Option (List ℕ)) (command : Command) (b : Bool) → Says (texts words) command → b ≡ false
+    → (IsTrue b → (command.verb ≡ verb.Run) ⊎ (command.verb ≡ verb.Check)) × ((command.verb ≡ verb.Run) ⊎ (command.verb ≡ verb.Check) → IsTrue b) → Refused words left left f.NotBuilt
+not_read words left command b says unbuilt built =
+    record { command = command; says = says; refused = unread (λ e. contrary (built.1 (inl e)), λ e. contrary (built.1 (inr e))) (keeps_itself left) }
+  where
+    contrary : IsTrue b → ⊥
+    contrary h = absurd (cc)
+
+-- what may be a cause: a refusal of the input, or want of memory
+abbrev may_be_cause : Failure → Bool
+may_be_cause f.Usage = false
+may_be_cause f.Read = false
+may_be_cause f.Write = false
+may_be_cause (f.Text fault) = true
+may_be_cause (f.Accept fault) = true
+may_be_cause f.TooManyRows = true
+may_be_cause f.NotOneSession = true
+may_be_cause f.NotBuilt = true
+may_be_cause (f.NotOrdered cycle) = true
+may_be_cause f.Memory = true
+
+is_cause : (command : Command) (input : List ℕ) (failure : Failure) → IsCause command input failure → may_be_cause failure ≡ true
+is_cause command input _ (no_job fault some is) = refl
+is_cause command input _ (not_accepted job fault some denotes is) = refl
+is_cause command input _ (too_many_rows g sessions accepted run many) = refl
+is_cause command input _ (no_run g sessions accepted run few none) = refl
+is_cause command input _ (no_partitions g sessions accepted check ordered) = refl
+is_cause command input _ (not_ordered g sessions cycle accepted check is) = refl
+is_cause command input _ no_memory = refl
+
+-- no cause is one of words, of reading or of writing
+pub never_usage : (command : Command) (input : List ℕ) (failure : Failure) → IsCause command input failure → failure ≢ f.Usage
+never_usage command input failure c e = let known = is_cause command input failure c in absurd (cc)
+
+pub never_read : (command : Command) (input : List ℕ) (failure : Failure) → IsCause command input failure → failure ≢ f.Read
+never_read command input failure c e = let known = is_cause command input failure c in absurd (cc)
+
+pub never_write : (command : Command) (input : List ℕ) (failure : Failure) → IsCause command input failure → failure ≢ f.Write
+never_write command input failure c e = let known = is_cause command input failure c in absurd (cc)
+
+-- an input that was read and is refused for a cause
+pub refused_for : (words : List (String Global)) (left left' : Option (List ℕ)) (command : Command) (input : List ℕ) (failure : Failure) → Says (texts words) command
+    → TakesUpTo input_limit left left' input → IsCause command input failure → Refused words left left' failure
+refused_for words left left' command input failure says taken cause =
+    record { command = command; says = says; refused = read input failure taken cause }
+
+few : (n : ℕ) (xs : List ℕ) → length (take n xs) < n → length xs ≤ n
+few n xs h = grind (arith, common_steps)
+
+-- input that is shorter than the limit is the whole of what there was
+read_whole : (n : ℕ) (left left' : Option (List ℕ)) (input : List ℕ) → TakesUpTo n left left' input → length input < n → IsReadWhole left left' input
+read_whole n None left' input t h = tt
+read_whole n (Some xs) left' input t h =
+    let short : length xs ≤ n = few n xs (let e = ap length t.0 in omega arith) in
+    (t.0 ∙ grind (arith, common_steps), t.1 ∙ ap Some (drop_all n xs short))
+
+short_run : (input text : List ℕ) (depth : ℕ) → IsRunOf input depth text → length input < input_limit
+short_run input text depth r = let short : length input ≤ 16777216 = r.built.accepted.denotes.short in omega arith
+
+pub done : (words : List (String Global)) (left left' held held' : Option (List ℕ)) (command : Command) (input text : List ℕ) → Says (texts words) command → command.verb ≡ verb.Run
+    → TakesUpTo input_limit left left' input → IsRunOf input command.depth text → Appends held held' text → Done words left left' held held'
+done words left left' held held' command input text says run t r a = record {
+  command = command;
+  says = says;
+  verb = run;
+  input = input;
+  text = text;
+  read = read_whole input_limit left left' input t (short_run input text command.depth r);
+  run = r;
+  written = a;
+}
+
+pub unwritten : (words : List (String Global)) (left left' held held' : Option (List ℕ)) (command : Command) (input text : List ℕ) → Says (texts words) command → command.verb ≡ verb.Run
+    → TakesUpTo input_limit left left' input → IsRunOf input command.depth text → AppendsPart held held' text → Unwritten words left left' held held'
+unwritten words left left' held held' command input text says run t r a = record {
+  command = command;
+  says = says;
+  verb = run;
+  input = input;
+  text = text;
+  read = read_whole input_limit left left' input t (short_run input text command.depth r);
+  run = r;
+  part = a;
+}
+
+-- the line is printed, or a part of it where the count of faults rose
+pub line_gained : {T E : Type 0} (old new : Option (List ℕ)) (faults faults' : ℕ) (r : Result T E) (line : List ℕ) → Gains old new faults faults' r line → GainsLine old new faults faults' line
+line_gained old new faults faults' (Ok x) line g = inl g.all
+line_gained old new faults faults' (Err e) line g = inr (g.rose, g.part)
+
+pub is_failure : (failure : Failure) → IsStatus (status_of failure)
+unfolding IsStatus
+is_failure failure = inr (failure, refl)
+
+pub is_done : IsStatus 0
+unfolding IsStatus
+is_done = inl refl
+
+-- a fault of the text is a cause, and so is one of the job
+pub text_cause : (command : Command) (input : List ℕ) (fault : JobFault) → IsTextFault input fault → IsCause command input (failure_of_text fault)
+text_cause command input text.TooLong is = no_job text.TooLong (λ e. absurd (cc)) is
+text_cause command input (text.Lex fault) is = no_job (text.Lex fault) (λ e. absurd (cc)) is
+text_cause command input (text.Expected at) is = no_job (text.Expected at) (λ e. absurd (cc)) is
+text_cause command input (text.LimitReached at limit) is = no_job (text.LimitReached at limit) (λ e. absurd (cc)) is
+text_cause command input (text.NestedTooDeep at) is = no_job (text.NestedTooDeep at) (λ e. absurd (cc)) is
+text_cause command input text.Memory is = no_memory
+
+pub job_cause : (command : Command) (input : List ℕ) (job : Job) (fault : AcceptFault) → Denotes input job → IsAcceptFault job fault → IsCause command input (failure_of_job fault)
+job_cause command input job (accept.Grammar fault) denotes is = not_accepted job (accept.Grammar fault) (λ e. absurd (cc)) denotes is
+job_cause command input job (accept.Term session edit fault) denotes is = not_accepted job (accept.Term session edit fault) (λ e. absurd (cc)) denotes is
+job_cause command input job (accept.NotStart session) denotes is = not_accepted job (accept.NotStart session) (λ e. absurd (cc)) denotes is
+job_cause command input job accept.Memory denotes is = no_memory
+
+-- what is known of an error, of whichever error it is
+pub if_err : {T : Type 0} (r : Result T Failure) (P : Failure → Type 0) (x : Failure) → IsErrAnd r (λ y. y ≡ x) → P x → IfErr r P
+if_err (Ok t) P x is p = tt
+if_err (Err y) P x is p = subst P (sym is) p
+
+pub same_err : {T : Type 0} (r : Result T Failure) (x y : Failure) → IsErrAnd r (λ z. z ≡ x) → r ≡ Err y → x ≡ y
+same_err (Ok t) x y is e = absurd (cc)
+same_err (Err z) x y is e = cc
+
+contrary : (m n : ℕ) → m < n → m ≡ n → ⊥
+contrary m n less e = absurd (omega arith)
+
+above : (m n : ℕ) → n < m → m ≡ n → ⊥
+above m n less e = absurd (omega arith)
+
+-- the statuses 5 and 6 are those of refusals
+pub is_refusal_of : (failure : Failure) → (status_of failure ≡ 5) ⊎ (status_of failure ≡ 6) → IsTrue (is_refusal failure)
+is_refusal_of f.Usage h = absurd (elim h [ inl e ↦ contrary 2 5 (omega arith) e | inr e ↦ contrary 2 6 (omega arith) e ])
+is_refusal_of f.Read h = absurd (elim h [ inl e ↦ contrary 3 5 (omega arith) e | inr e ↦ contrary 3 6 (omega arith) e ])
+is_refusal_of f.Write h = absurd (elim h [ inl e ↦ contrary 4 5 (omega arith) e | inr e ↦ contrary 4 6 (omega arith) e ])
+is_refusal_of (f.Text fault) h = refl
+is_refusal_of (f.Accept fault) h = refl
+is_refusal_of f.TooManyRows h = refl
+is_refusal_of f.NotOneSession h = refl
+is_refusal_of f.NotBuilt h = refl
+is_refusal_of (f.NotOrdered cycle) h = refl
+is_refusal_of f.Memory h = absurd (elim h [ inl e ↦ above 7 5 (omega arith) e | inr e ↦ above 7 6 (omega arith) e ])

@@ -1,5 +1,0 @@
-use Rattle.lrc_cli.proofs.OneLemmas.{one_text_of}
-use Rattle.lrc_cli.proofs.run.one_text.Goals as goal
-
-pub returns : goal.returns
-returns c = one_text_of c.one_job.ensures c.one_session.ensures

@@ -1,0 +1,74 @@
+-- Why a job is refused, in the order in which faults are looked for: its text, its acceptance, the rows of its
+-- sessions, what is not built yet, and for `check` the ordered test before that.
+use Rattle.std.specs.Prelude.{◌≡◌, ◌≢◌, ℕ, ◌*◌, ◌<◌, ◌≤◌, Bool, true, false, List, [], ◌∷◌, length, Option, Some, slice_get, ⊤}
+use Rattle.lrc_base.specs.declared.job.Job.{Job}
+use Rattle.lrc_base.specs.declared.grammar.Production.{Production}
+use Rattle.lrc_meaning.specs.Tree.{Tree}
+use Rattle.lrc_meaning.specs.Grammar.{Grammar}
+use Rattle.lrc_meaning.specs.Editing.{Change}
+use Rattle.lrc_meaning.specs.Naming.{called_occurrences}
+use Rattle.lrc_order.specs.Ordered.{IsOrdered, IsInducedCycle, IsExtendedCycle}
+use Rattle.lrc_reader.specs.Denotes.{Denotes}
+use Rattle.lrc_words.specs.declared.command.Command.{Command}
+use Rattle.lrc_words.specs.declared.command.Verb.TheVariants as verb
+use Rattle.lrc_stub.specs.declared.fault.JobFault.{JobFault}
+use Rattle.lrc_stub.specs.declared.fault.JobFault.TheVariants as text
+use Rattle.lrc_stub.specs.declared.fault.AcceptFault.{AcceptFault}
+use Rattle.lrc_stub.specs.declared.fault.AcceptFault.TheVariants as accept
+use Rattle.lrc_stub.specs.Stub.{Opened, IsTextFault, IsAcceptFault}
+use Rattle.lrc_lines.specs.declared.failure.Cycle.{Cycle}
+use Rattle.lrc_lines.specs.declared.failure.Failure.{Failure}
+use Rattle.lrc_lines.specs.declared.failure.Failure.TheVariants as f
+use Rattle.lrc_cli.specs.Headline.{IsAccepted, IsBuilt}
+
+-- the most rows of all sessions together
+abbrev pub row_limit : ℕ
+row_limit = 16777216
+
+-- the production and the occurrence of these numbers, by their names
+pub record IsNamed (g : Grammar) (production occurrence : ℕ) (cycle : Cycle) : Type 0 where
+  pub at : Production
+  pub is_there : slice_get g.prods production ≡ Some at
+  pub production_name : cycle.production ≡ at.name
+  pub occurrence_name : slice_get (called_occurrences g.sorts at.left at.kids at.extras) occurrence
+      ≡ Some (record { owner = cycle.owner; called = cycle.occurrence })
+
+-- an extended cycle, or an induced one, by the production's and the occurrence's numbers
+abbrev pub IsCycleAt : Bool → Grammar → ℕ → ℕ → Type 0
+IsCycleAt true g production occurrence = IsExtendedCycle g [] production occurrence
+IsCycleAt false g production occurrence = IsInducedCycle g [] production occurrence
+
+-- the cycle that the ordered test tells of the grammar
+pub record IsCycle (g : Grammar) (cycle : Cycle) : Type 0 where
+  pub production : ℕ
+  pub occurrence : ℕ
+  pub found : IsCycleAt cycle.is_extended g production occurrence
+  pub named : IsNamed g production occurrence cycle
+
+-- the numbers are those of a production and of an occurrence of it
+pub record IsPlaced (g : Grammar) (production occurrence : ℕ) : Type 0 where
+  pub at : Production
+  pub is_there : slice_get g.prods production ≡ Some at
+  pub within : occurrence < length (called_occurrences g.sorts at.left at.kids at.extras)
+
+-- the grammar is not ordered, or memory ran out
+pub data IsUnordered (g : Grammar) : Failure → Type 0 where
+  has_cycle : (cycle : Cycle) → IsCycle g cycle → IsUnordered g (f.NotOrdered cycle)
+  has_no_memory : IsUnordered g f.Memory
+
+-- nothing of a command is built yet
+abbrev pub IsUnbuilt : Command → Type 0
+IsUnbuilt command = (command.verb ≢ verb.Run) × (command.verb ≢ verb.Check)
+
+-- Why the input is refused.
+pub data IsCause (command : Command) (input : List ℕ) : Failure → Type 0 where
+  no_job : (fault : JobFault) → fault ≢ text.Memory → IsTextFault input fault → IsCause command input (f.Text fault)
+  not_accepted : (job : Job) (fault : AcceptFault) → fault ≢ accept.Memory → Denotes input job → IsAcceptFault job fault → IsCause command input (f.Accept fault)
+  too_many_rows : (g : Grammar) (sessions : List Opened) → IsAccepted input g sessions → command.verb ≡ verb.Run
+      → row_limit < command.rows * length sessions → IsCause command input f.TooManyRows
+  no_run : (g : Grammar) (sessions : List Opened) → IsAccepted input g sessions → command.verb ≡ verb.Run → command.rows * length sessions ≤ row_limit
+      → ((opening : Tree) (changes : List Change) → ¬ IsBuilt input g opening changes) → IsCause command input f.NotBuilt
+  no_partitions : (g : Grammar) (sessions : List Opened) → IsAccepted input g sessions → command.verb ≡ verb.Check → IsOrdered g [] → IsCause command input f.NotBuilt
+  not_ordered : (g : Grammar) (sessions : List Opened) (cycle : Cycle) → IsAccepted input g sessions → command.verb ≡ verb.Check → IsCycle g cycle
+      → IsCause command input (f.NotOrdered cycle)
+  no_memory : IsCause command input f.Memory
