@@ -117,7 +117,13 @@ module _ {A B : Type 0} (R : A → B → Type 0) where
   each_map f g same (x ∷ xs) [] h = absurd h
   each_map f g same (x ∷ xs) (y ∷ ys) h = ap₂ ◌∷◌ (same x y h.0) (each_map f g same xs ys h.1)
 
-  -- an item of the left list that has one on the right has them all
+  pub each_gives : (P : A → Type 0) → ((x : A) (y : B) → R x y → P x) → (xs : List A) (ys : List B) → Each R xs ys → Every P xs
+  each_gives P f xs ys h = each_left P (λ y. ⊤) (λ x y r u. f x y r) xs ys h (every_of_all (λ y. ⊤) ys (λ y. tt))
+
+  pub each_gives_right : (Q : B → Type 0) → ((x : A) (y : B) → R x y → Q y) → (xs : List A) (ys : List B) → Each R xs ys → Every Q ys
+  each_gives_right Q f xs ys h = each_right (λ x. ⊤) Q (λ x y r u. f x y r) xs ys h (every_of_all (λ x. ⊤) xs (λ x. tt))
+
+  -- where each item on the left has one on the right, the left list has a list
   pub every_has : (xs : List A) → Every (λ x. (y : B) × R x y) xs → (ys : List B) × Each R xs ys
   every_has [] h = ([], tt)
   every_has (x ∷ xs) h = let rest = every_has xs h.1 in (h.0.0 ∷ rest.0, (h.0.1, rest.1))
@@ -221,6 +227,11 @@ module _ {A : Type 0} (whole : List A) (P Q : List A → A → Type 0) (f : (b :
   after_from before [] e h = tt
   after_from before (x ∷ xs) e h =
       (f before x xs e h.0, after_from (before ++ x ∷ []) xs (append_assoc before (x ∷ []) xs ∙ e) h.1)
+
+module _ {A : Type 0} (P Q : List A → A → Type 0) where
+  pub after_both : (before xs : List A) → After P before xs → After Q before xs → After (λ b x. P b x × Q b x) before xs
+  after_both before [] h k = tt
+  after_both before (x ∷ xs) h k = ((h.0, k.0), after_both (before ++ x ∷ []) xs h.1 k.1)
 
 module _ {A : Type 0} (P : A → Type 0) where
   pub every_of_after : (before xs : List A) → After (λ b x. P x) before xs → Every P xs

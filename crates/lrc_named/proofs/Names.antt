@@ -7,7 +7,7 @@ use Rattle.std.proofs.lemmas.Bool.{cases_Bool, and_parts, and_from, and_left, an
 use Rattle.std.proofs.lemmas.List.Folds.{list_any-append}
 use Rattle.lrc_meaning.specs.Grammar.{all_distinct}
 use Rattle.lrc_faults.specs.Faults.{Name, is_among}
-use Rattle.lrc_named.proofs.Lists.{After}
+use Rattle.lrc_named.proofs.Lists.{After, after_from}
 
 pub same_name : (m n : Name) → bytes_eq m n ≡ true → m ≡ n
 same_name m n = (bytes_decides m n).0
@@ -128,3 +128,24 @@ distinct_parts (x ∷ xs) ys h = by (distinct_parts xs ys parts.1)
       back = rest.back;
       apart = λ n e. other n (cases_Bool (bytes_eq n x)) (rest.apart n) e;
     }
+
+-- each item has a name of its own
+module _ {A : Type 0} (front : List Name) (name : A → Name) where
+  abbrev pub IsNew : List A → A → Type 0
+  IsNew before x = is_among (front ++ map name before) (name x) ≡ false
+
+  abbrev single : A → List Name
+  single x = name x ∷ []
+
+  pub new_distinct : (xs : List A) → all_distinct front ≡ true → After IsNew [] xs → all_distinct (front ++ map name xs) ≡ true
+  new_distinct xs d h =
+      let one = after_from xs IsNew (IsFresh front single) (λ b x rest e k. fresh_one (front ++ flat_map single b) (name x) (subst (λ l. is_among (front ++ l) (name x) ≡ false) (sym (flat_map_single name b)) k)) [] xs refl h in
+      let all = subst (λ l. fresh l (flat_map single xs) ≡ true) (append-nil front) (fresh_after front single [] xs one) in
+      sym (fresh-distinct front (map name xs) d) ∙ subst (λ l. fresh front l ≡ true) (flat_map_single name xs) all
+
+  pub distinct_new : (xs : List A) → all_distinct (front ++ map name xs) ≡ true → After IsNew [] xs
+  distinct_new xs h =
+      let d = (distinct_parts front (map name xs) h).front in
+      let all = subst (λ l. fresh front l ≡ true) (sym (flat_map_single name xs)) (fresh-distinct front (map name xs) d ∙ h) in
+      let one = after_fresh front single [] xs (subst (λ l. fresh l (flat_map single xs) ≡ true) (sym (append-nil front)) all) in
+      after_from xs (IsFresh front single) IsNew (λ b x rest e k. subst (λ l. is_among (front ++ l) (name x) ≡ false) (flat_map_single name b) (one_fresh (front ++ flat_map single b) (name x) k)) [] xs refl one
