@@ -2,3 +2,4 @@ pub mod Lists
 pub mod Names
 pub mod Sorts
 pub mod Heads
+pub mod Patterns

@@ -31,6 +31,33 @@ module _ {A : Type 0} (p : A → Bool) where
       by true h = rw (lt-ltb 0 (suc (length xs)) (omega arith)) refl
       by false h = rw one-add (placed-suc (position_or_len p xs) (length xs) ∙ ap (λ o. option_map suc o) h)
 
+pub number_at : {A : Type 0} (p : A → Bool) (xs : List A) (i : ℕ) → number p xs ≡ Some i → (x : A) × (slice_get xs i ≡ Some x) × (p x ≡ true)
+number_at p [] i e = absurd (cc)
+number_at p (x ∷ xs) i e = by (p x) refl (number p xs) refl (number_at p xs) i e
+  where
+    by : (b : Bool) → p x ≡ b → (o : Option ℕ) → number p xs ≡ o → ((j : ℕ) → number p xs ≡ Some j → (y : _) × (slice_get xs j ≡ Some y) × (p y ≡ true)) → (i : ℕ) → cond b (Some 0) (option_map suc o) ≡ Some i →
+        (y : _) × (slice_get (x ∷ xs) i ≡ Some y) × (p y ≡ true)
+    by true is o os rest i e = let zero' : 0 ≡ i = cc in subst (λ j. (y : _) × (slice_get (x ∷ xs) j ≡ Some y) × (p y ≡ true)) zero' (x, refl, is)
+    by false is None os rest i e = absurd (cc)
+    by false is (Some j) os rest i e = let next : suc j ≡ i = cc in subst (λ m. (y : _) × (slice_get (x ∷ xs) m ≡ Some y) × (p y ≡ true)) next (rest j os)
+
+pub number_any : {A : Type 0} (p : A → Bool) (xs : List A) (i : ℕ) → number p xs ≡ Some i → list_any p xs ≡ true
+number_any p [] i e = absurd (cc)
+number_any p (x ∷ xs) i e = by (p x) (number p xs) refl (number_any p xs) e
+  where
+    by : (b : Bool) (o : Option ℕ) → number p xs ≡ o → ((j : ℕ) → number p xs ≡ Some j → list_any p xs ≡ true) → cond b (Some 0) (option_map suc o) ≡ Some i → (b || list_any p xs) ≡ true
+    by true o os rest e = refl
+    by false None os rest e = absurd (cc)
+    by false (Some j) os rest e = rest j os
+
+pub any_number : {A : Type 0} (p : A → Bool) (xs : List A) → list_any p xs ≡ true → (i : ℕ) × (number p xs ≡ Some i)
+any_number p [] e = absurd (cc)
+any_number p (x ∷ xs) e = by (p x) (any_number p xs) e
+  where
+    by : (b : Bool) → (list_any p xs ≡ true → (i : ℕ) × (number p xs ≡ Some i)) → (b || list_any p xs) ≡ true → (i : ℕ) × (cond b (Some 0) (option_map suc (number p xs)) ≡ Some i)
+    by true rest e = (0, refl)
+    by false rest e = let found = rest e in (suc found.0, ap (λ o. option_map suc o) found.1)
+
 -- ---- each of a list
 
 abbrev pub Every : {A : Type 0} → (A → Type 0) → List A → Type 0

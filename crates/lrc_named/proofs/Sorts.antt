@@ -20,7 +20,7 @@ use Rattle.lrc_meaning.specs.Tree.{same_kind}
 use Rattle.lrc_meaning.specs.Grammar.{attrs_of_sort, attrs_of, all_distinct, is_known, is_sort_right}
 use Rattle.lrc_meaning.specs.Naming.{each_some, sort_number, named_kind, named_attr, named_sort}
 use Rattle.lrc_faults.specs.Faults.{Name, Fault, fault, unknown, twice, where_true, is_among, kind_faults, attr_faults, sort_faults, attrs_in, attrs_named, attrs_of_kind, same_kind as same_raw_kind, each_after}
-use Rattle.lrc_named.proofs.Lists.{number, position-number, Every, every_passes, all_pass, Each, each_from, each_right, each_left, each_map, every_has, each_named, named_each, Names, FoundAt, absent, there, found_at, empty_parts, empty_both, none_where, where_none, After, none_after, after_none, after_from, after_both, every_of_after, after_of_every, every_from, each_gives, each_gives_right, empty_each, each_empty}
+use Rattle.lrc_named.proofs.Lists.{number, number_at, position-number, Every, every_passes, all_pass, Each, each_from, each_right, each_left, each_map, every_has, each_named, named_each, Names, FoundAt, absent, there, found_at, empty_parts, empty_both, none_where, where_none, After, none_after, after_none, after_from, after_both, every_of_after, after_of_every, every_from, each_gives, each_gives_right, empty_each, each_empty}
 use Rattle.lrc_named.proofs.Names.{same_name, own_name, names_swap, IsNew, new_distinct, distinct_new}
 
 -- the attributes of a sort have names of their own
@@ -74,16 +74,6 @@ module _ (raw : List RawSort) where
   kind_faultless place (rk.Named n) y e =
       let found = kind_is_sort n y e in
       sort_numbered n (fault unknown place n) found.0 found.1
-
-  number_at : {A : Type 0} (p : A → Bool) (xs : List A) (i : ℕ) → number p xs ≡ Some i → (x : A) × (slice_get xs i ≡ Some x) × (p x ≡ true)
-  number_at p [] i e = absurd (cc)
-  number_at p (x ∷ xs) i e = by (p x) refl (number p xs) refl (number_at p xs) i e
-    where
-      by : (b : Bool) → p x ≡ b → (o : Option ℕ) → number p xs ≡ o → ((j : ℕ) → number p xs ≡ Some j → (y : _) × (slice_get xs j ≡ Some y) × (p y ≡ true)) → (i : ℕ) → cond b (Some 0) (option_map suc o) ≡ Some i →
-          (y : _) × (slice_get (x ∷ xs) i ≡ Some y) × (p y ≡ true)
-      by true is o os rest i e = let zero' : 0 ≡ i = cc in subst (λ j. (y : _) × (slice_get (x ∷ xs) j ≡ Some y) × (p y ≡ true)) zero' (x, refl, is)
-      by false is None os rest i e = absurd (cc)
-      by false is (Some j) os rest i e = let next : suc j ≡ i = cc in subst (λ m. (y : _) × (slice_get (x ∷ xs) m ≡ Some y) × (p y ≡ true)) next (rest j os)
 
   same_number : (m n : Name) (i : ℕ) → sort_number raw m ≡ Some i → sort_number raw n ≡ Some i → m ≡ n
   same_number m n i e f =
