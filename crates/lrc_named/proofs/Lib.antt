@@ -3,3 +3,4 @@ pub mod Names
 pub mod Sorts
 pub mod Heads
 pub mod Patterns
+pub mod Places

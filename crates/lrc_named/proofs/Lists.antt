@@ -155,6 +155,29 @@ module _ {A B : Type 0} (R : A → B → Type 0) where
   every_has [] h = ([], tt)
   every_has (x ∷ xs) h = let rest = every_has xs h.1 in (h.0.0 ∷ rest.0, (h.0.1, rest.1))
 
+module _ {A B C D : Type 0} (R : A → B → Type 0) (S : C → D → Type 0) where
+  pub each_mapped : (f : A → C) (g : B → D) → ((x : A) (y : B) → R x y → S (f x) (g y)) → (xs : List A) (ys : List B) → Each R xs ys → Each S (map f xs) (map g ys)
+  each_mapped f g h [] [] k = tt
+  each_mapped f g h [] (y ∷ ys) k = absurd k
+  each_mapped f g h (x ∷ xs) [] k = absurd k
+  each_mapped f g h (x ∷ xs) (y ∷ ys) k = (h x y k.0, each_mapped f g h xs ys k.1)
+
+  pub each_flat : (f : A → List C) (g : B → List D) → ((x : A) (y : B) → R x y → Each S (f x) (g y)) → (xs : List A) (ys : List B) → Each R xs ys → Each S (flat_map f xs) (flat_map g ys)
+  each_flat f g h [] [] k = tt
+  each_flat f g h [] (y ∷ ys) k = absurd k
+  each_flat f g h (x ∷ xs) [] k = absurd k
+  each_flat f g h (x ∷ xs) (y ∷ ys) k = each_both S (f x) (g y) (flat_map f xs) (flat_map g ys) (h x y k.0) (each_flat f g h xs ys k.1)
+
+pub each_is : {A B : Type 0} (f : A → B) (xs : List A) (ys : List B) → Each (λ x y. y ≡ f x) xs ys → ys ≡ map f xs
+each_is f [] [] h = refl
+each_is f [] (y ∷ ys) h = absurd h
+each_is f (x ∷ xs) [] h = absurd h
+each_is f (x ∷ xs) (y ∷ ys) h = ap₂ ◌∷◌ h.0 (each_is f xs ys h.1)
+
+pub number-map : {A B : Type 0} (p : B → Bool) (f : A → B) (xs : List A) → number p (map f xs) ≡ number (λ x. p (f x)) xs
+number-map p f [] = refl
+number-map p f (x ∷ xs) = ap (λ o. cond (p (f x)) (Some 0) (option_map suc o)) (number-map p f xs)
+
 module _ {A B : Type 0} (f : A → Option B) where
   abbrev pub Names : A → B → Type 0
   Names x y = f x ≡ Some y

@@ -67,7 +67,7 @@ module _ {A : Type 0} (front : List Name) (names : A → List Name) where
       let parts = fresh_parts (front ++ flat_map names before) (names x) (flat_map names xs) h in
       (parts.0, after_fresh (before ++ x ∷ []) xs (subst (λ l. fresh l (flat_map names xs) ≡ true) (names_pushed before x) parts.1))
 
-pub flat_map_single : {A : Type 0} (f : A → Name) (xs : List A) → flat_map (λ x. f x ∷ []) xs ≡ map f xs
+pub flat_map_single : {A B : Type 0} (f : A → B) (xs : List A) → flat_map (λ x. f x ∷ []) xs ≡ map f xs
 flat_map_single f [] = refl
 flat_map_single f (x ∷ xs) = ap (λ l. f x ∷ l) (flat_map_single f xs)
 
