@@ -4,3 +4,4 @@ pub mod Sorts
 pub mod Heads
 pub mod Patterns
 pub mod Places
+pub mod Meanings

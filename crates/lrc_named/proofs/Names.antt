@@ -1,5 +1,5 @@
 -- Names that differ: found one after another, and over a whole list.
-use Rattle.std.proofs.Common.{◌≡◌, ℕ, Bool, true, false, not, ◌&&◌, ◌||◌, ◌⊎◌, inl, inr, List, [], ◌∷◌, ◌++◌, map, flat_map, bytes_eq, find, Option, Some, None, refl, sym, ap, ◌∙◌, subst, arith, append_assoc, append-nil}
+use Rattle.std.proofs.Common.{◌≡◌, ℕ, Bool, true, false, not, ◌&&◌, ◌||◌, ◌⊎◌, inl, inr, cond, List, [], ◌∷◌, ◌++◌, map, flat_map, bytes_eq, find, Option, Some, None, refl, sym, ap, ◌∙◌, subst, arith, append_assoc, append-nil}
 use Rattle.std.specs.Bool.{one_answer}
 use Rattle.std.specs.List.{list_any}
 use Rattle.std.specs.Cmp.Lexicographic.{bytes_decides}
@@ -149,3 +149,29 @@ module _ {A : Type 0} (front : List Name) (name : A → Name) where
       let all = subst (λ l. fresh front l ≡ true) (sym (flat_map_single name xs)) (fresh-distinct front (map name xs) d ∙ h) in
       let one = after_fresh front single [] xs (subst (λ l. fresh l (flat_map single xs) ≡ true) (sym (append-nil front)) all) in
       after_from xs (IsFresh front single) IsNew (λ b x rest e k. subst (λ l. is_among (front ++ l) (name x) ≡ false) (flat_map_single name b) (one_fresh (front ++ flat_map single b) (name x) k)) [] xs refl one
+
+-- ---- items found by name
+
+pub any_named : {A : Type 0} (name : A → Name) (n : Name) (xs : List A) → is_among (map name xs) n ≡ list_any (λ x. bytes_eq (name x) n) xs
+any_named name n [] = refl
+any_named name n (x ∷ xs) = rw (names_swap n (name x), any_named name n xs) refl
+
+module _ {A : Type 0} (name : A → Name) (n : Name) where
+  abbrev pub called : A → Bool
+  called x = bytes_eq (name x) n
+
+  pub name_among : (xs : List A) (x : A) → find called xs ≡ Some x → (is_among (map name xs) n ≡ true) × (name x ≡ n)
+  name_among [] x e = absurd (cc)
+  name_among (y ∷ xs) x e = by (called y) refl (name_among xs x) e
+    where
+      by : (b : Bool) → called y ≡ b → (find called xs ≡ Some x → (is_among (map name xs) n ≡ true) × (name x ≡ n)) → cond b (Some y) (find called xs) ≡ Some x → (is_among (map name (y ∷ xs)) n ≡ true) × (name x ≡ n)
+      by true is rest e =
+          let same : y ≡ x = cc in
+          (or_left (bytes_eq n (name y)) (is_among (map name xs) n) (names_swap n (name y) ∙ is), subst (λ z. name z ≡ n) same (same_name (name y) n is))
+      by false is rest e = let found = rest e in (or_right (bytes_eq n (name y)) (is_among (map name xs) n) found.0, found.1)
+
+  pub name_absent : (xs : List A) → is_among (map name xs) n ≡ false → find called xs ≡ None
+  name_absent [] e = refl
+  name_absent (x ∷ xs) e =
+      let parts = or_parts (bytes_eq n (name x)) (is_among (map name xs) n) e in
+      rw (sym (names_swap n (name x)) ∙ parts.0) (name_absent xs parts.1)

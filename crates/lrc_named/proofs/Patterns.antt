@@ -21,7 +21,7 @@ use Rattle.lrc_meaning.specs.Grammar.{is_piece_right}
 use Rattle.lrc_meaning.specs.Naming.{each_some, kid_number, named_piece, pattern_of, only_pattern, named_pattern}
 use Rattle.lrc_faults.specs.Faults.{Name, fault, unknown, is_among, kid_names, is_pattern, piece_faults}
 use Rattle.lrc_named.proofs.Lists.{number, number_at, number_any, any_number, position-number, Every, every_from, all_pass, Each, each_map, each_gives, every_has, each_named, named_each, Names, none_where, where_none, After, empty_each, each_empty}
-use Rattle.lrc_named.proofs.Names.{names_swap}
+use Rattle.lrc_named.proofs.Names.{any_named}
 use Rattle.lrc_named.proofs.Heads.{IsKid}
 
 -- ---- at most one
@@ -91,10 +91,6 @@ first_pattern before (item.Pattern pieces ∷ items) none one =
     fresh' false e = e
 
 -- ---- its words
-
-pub any_named : {A : Type 0} (name : A → Name) (n : Name) (xs : List A) → is_among (map name xs) n ≡ list_any (λ x. bytes_eq (name x) n) xs
-any_named name n [] = refl
-any_named name n (x ∷ xs) = rw (names_swap n (name x), any_named name n xs) refl
 
 module _ (raw : List RawSort) (p : RawProd) (kids : List Kid) (are : Each (IsKid raw) p.kids kids) where
   abbrev kid_called : Name → Kid → Bool

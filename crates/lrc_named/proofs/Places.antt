@@ -122,15 +122,6 @@ module _ {A : Type 0} (name : A → Name) (places : A → List Place) where
         let parts = or_parts (is_at t x) (list_any (is_at t) xs) e in
         rw parts.0 (none_found t xs parts.1)
 
-    name_among : (n : Name) (xs : List A) (x : A) → find (λ x. bytes_eq (name x) n) xs ≡ Some x → (is_among (map name xs) n ≡ true) × (bytes_eq (name x) n ≡ true)
-    name_among n [] x e = absurd (cc)
-    name_among n (y ∷ xs) x e = by (bytes_eq (name y) n) refl (name_among n xs x) e
-      where
-        by : (b : Bool) → bytes_eq (name y) n ≡ b → (find (λ x. bytes_eq (name x) n) xs ≡ Some x → (is_among (map name xs) n ≡ true) × (bytes_eq (name x) n ≡ true)) → cond b (Some y) (find (λ x. bytes_eq (name x) n) xs) ≡ Some x →
-            (is_among (map name (y ∷ xs)) n ≡ true) × (bytes_eq (name x) n ≡ true)
-        by true is rest e = let same : y ≡ x = cc in (or_left (bytes_eq n (name y)) (is_among (map name xs) n) (names_swap n (name y) ∙ is), subst (λ z. bytes_eq (name z) n ≡ true) same is)
-        by false is rest e = let found = rest e in (or_right (bytes_eq n (name y)) (is_among (map name xs) n) found.0, found.1)
-
     abbrev pub found_in : Target → Option A → Option Place
     found_in t o = option_and_then (λ x. find (is_at t) (places x)) o
 
