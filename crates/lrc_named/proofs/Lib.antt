@@ -5,3 +5,4 @@ pub mod Heads
 pub mod Patterns
 pub mod Places
 pub mod Meanings
+pub mod Occurrences

@@ -87,10 +87,10 @@ module _ (raw : List RawSort) where
       one_answer (bytes_eq m n) (nat_eq i j) (bytes_decides m n) (λ h. same_number m n j (subst (λ x. sort_number raw m ≡ Some x) ((Decides-eqb i j).0 h) e) f, λ h. (Decides-eqb i j).1 (let both : Some i ≡ Some j = sym e ∙ (ap (sort_number raw) h ∙ f) in cc))
 
   -- a kind that is none of the given ones is a sort of some number
-  is_that_sort : (n : Name) (y : Kind) (P : Kind → Type 0) → IsKind (rk.Named n) y → ((i : ℕ) → sort_number raw n ≡ Some i → P (k.Sort i)) → P y
+  pub is_that_sort : (n : Name) (y : Kind) (P : Kind → Type 0) → IsKind (rk.Named n) y → ((i : ℕ) → sort_number raw n ≡ Some i → P (k.Sort i)) → P y
   is_that_sort n y P e f = let found = kind_is_sort n y e in subst P found.2 (f found.0 found.1)
 
-  is_given : (x : RawKind) (z y : Kind) (P : Kind → Type 0) → named_kind raw x ≡ Some z → IsKind x y → P z → P y
+  pub is_given : (x : RawKind) (z y : Kind) (P : Kind → Type 0) → named_kind raw x ≡ Some z → IsKind x y → P z → P y
   is_given x z y P e f h = let same : z ≡ y = (let both : Some z ≡ Some y = sym e ∙ f in cc) in subst P same h
 
   pub same_kinds : (x y : RawKind) (u v : Kind) → IsKind x u → IsKind y v → same_raw_kind x y ≡ same_kind u v
