@@ -165,3 +165,39 @@ module _ (raw : List RawSort) (sorts : List Sort) (named : Each (Names (named_so
   LeafAt n (symbol sort) = leaf_number P.kids n ≡ None
   LeafAt n (value kind) = ⊤
   LeafAt n (tree sort) = ⊤
+
+  leaf_either : (n : Name) → FoundAt (IsKid raw) (raw_leaf n) p.kids P.kids
+  leaf_either n = found_at (IsKid raw) (raw_leaf n) p.kids P.kids kids
+
+  no_leaf_there : (n : Name) → FoundAt (IsKid raw) (raw_leaf n) p.kids P.kids → find (raw_leaf n) p.kids ≡ None → leaf_number P.kids n ≡ None
+  no_leaf_there n (absent f m) e = leaf_at n ∙ m
+  no_leaf_there n (there i a b f m at is yes') e = absurd (let both : Some a ≡ None = sym f ∙ e in cc)
+
+  leaf_there : (n : Name) (a : RawKid) → FoundAt (IsKid raw) (raw_leaf n) p.kids P.kids → find (raw_leaf n) p.kids ≡ Some a → is_leaf a.kind ≡ true → IsLeaf n a.kind
+  leaf_there n a (absent f m) e l = absurd (let both : None ≡ Some a = sym f ∙ e in cc)
+  leaf_there n a (there i x b f m at is yes') e l =
+      let same : x ≡ a = (let both : Some x ≡ Some a = sym f ∙ e in cc) in
+      let kind : named_kind raw a.kind ≡ Some b.kind = subst (λ (z : RawKid). named_kind raw z.kind ≡ Some b.kind) same is.kind in
+      record { number = i; kind_there = b.kind; at = leaf_at n ∙ m; there = rw (at, leaf_same a.kind b.kind kind, l) refl; known = kind }
+
+  pub leaf_of_name : (n : Name) → LeafAt n (means raw p n)
+  leaf_of_name n = by (find (called (λ (a : RawAttr). a.name) n) (attrs_named raw p.left)) (find (kid_named n) p.kids) (find (called declared_name n) (declared_in p.items)) refl
+    where
+      distinct_kids : all_distinct (kid_names p.kids) ≡ true
+      distinct_kids = (distinct_parts (kid_names p.kids) (map declared_name (declared_in p.items)) ((distinct_parts (map (λ (a : RawAttr). a.name) (attrs_named raw p.left)) (kid_names p.kids ++ map declared_name (declared_in p.items)) head.distinct).back)).front
+
+      found : find (raw_leaf n) p.kids ≡ if_leaf (find (kid_named n) p.kids)
+      found = leaf_found n p.kids distinct_kids
+
+      by_kid : (a : RawKid) (kind : RawKind) → a.kind ≡ kind → find (kid_named n) p.kids ≡ Some a → LeafAt n (Rattle.lrc_faults.specs.Faults.kid_means a kind)
+      by_kid a rk.Int e is = subst (IsLeaf n) e (leaf_there n a (leaf_either n) (found ∙ rw (is, e) refl) (rw e refl))
+      by_kid a rk.Bool e is = subst (IsLeaf n) e (leaf_there n a (leaf_either n) (found ∙ rw (is, e) refl) (rw e refl))
+      by_kid a rk.Name e is = subst (IsLeaf n) e (leaf_there n a (leaf_either n) (found ∙ rw (is, e) refl) (rw e refl))
+      by_kid a (rk.Named m) e is = no_leaf_there n (leaf_either n) (found ∙ rw (is, e) refl)
+
+      by : (x : Option RawAttr) (a : Option RawKid) (d : Option Declared) → find (kid_named n) p.kids ≡ a → LeafAt n (left_or_other x (kid_or_declared a d))
+      by (Some x) a d is = tt
+      by None (Some a) d is = by_kid a a.kind refl is
+      by None None None is = no_leaf_there n (leaf_either n) (found ∙ rw is refl)
+      by None None (Some (local m kind)) is = tt
+      by None None (Some (attached m sort)) is = tt
