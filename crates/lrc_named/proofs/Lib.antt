@@ -6,4 +6,4 @@ pub mod Patterns
 pub mod Places
 pub mod Meanings
 pub mod Occurrences
-pub mod Probe
+pub mod Expressions
