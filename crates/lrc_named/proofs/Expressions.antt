@@ -23,7 +23,7 @@ use Rattle.lrc_base.specs.declared.raw.RawExpr.{RawExpr, RawExpr-F, ind-RawExpr,
 use Rattle.lrc_base.specs.declared.raw.RawExpr.TheVariants as v
 use Rattle.lrc_meaning.specs.Tree.{int, bool, name, same_kind}
 use Rattle.lrc_meaning.specs.Grammar.{Occurrence, occurrences_of, read_kind, leaf_kind, of_kind as kind_if, common_kind, operated_kind, expression_kind, have_kinds}
-use Rattle.lrc_meaning.specs.Expression.{Expression, literal, occurrence, leaf as leaf_of, binary, choice as choice_of, make, expression, expression_row}
+use Rattle.lrc_meaning.specs.Expression.{Expression, literal, occurrence, leaf as leaf_of, binary, choice as choice_of, make, expression, Expressions, expression_row}
 use Rattle.lrc_meaning.specs.Naming.{Known, named_kind, named_sort, named_expr, or_leaf, occurrence_number, written_number, each_some}
 use Rattle.lrc_meaning.proofs.ExpressionLemmas.{expression-Int, expression-Bool, expression-Name, expression-Occ, expression-Leaf, expression-Op, expression-If, expression-Make}
 use Rattle.lrc_naming.proofs.NamingLemmas.{named_expr-Int, named_expr-Bool, named_expr-Name, named_expr-One, named_expr-Two, named_expr-Op, named_expr-If, named_expr-Make}
@@ -255,3 +255,158 @@ module _ (g : RawGrammar) (sorts : List Sort) (named : Each (Names (named_sort g
       wrong d (ds ++ (operation c op a.kind b.kind).faults) (rw (fa, fb) refl) (rw nx (right_has_none op z u y kx h))
   op_agrees c op a b x y (right ka u z fa nx kx is) (right kb w z' fb ny ky is') =
       rw (fa, fb, nx, ny) (operated_agrees c op ka kb u w (e.Op op z z') is is' (kind_of_op op z z' ∙ rw (kx, ky) refl))
+
+  -- ---- choices
+
+  abbrev if_kind : Option Kind → Option Kind → Option Kind → Option Kind
+  if_kind c a b = option_and_then (λ x. cond (same_kind x k.Bool) (common_kind a b) None) c
+
+  abbrev if_named : Option Expr → Option Expr → Option Expr → Option Expr
+  if_named c a b = option_and_then (λ x. option_and_then (λ y. option_map (λ z. e.If x y z) b) a) c
+
+  abbrev if_found : Fault → Found → Found → Found → Found
+  if_found d c a b = behind (c.faults ++ (a.faults ++ b.faults)) (choice d c.kind a.kind b.kind)
+
+  kind_of_if : (x y z : Expr) → kind_given (Some (e.If x y z)) ≡ if_kind (kind_in (expression x)) (kind_in (expression y)) (kind_in (expression z))
+  kind_of_if x y z = ap kind_in (expression-If x y z)
+
+  abbrev no_kind : Option Kind
+  no_kind = None
+
+  no_common : (b : Bool) → cond b no_kind no_kind ≡ no_kind
+  no_common true = refl
+  no_common false = refl
+
+  test_has_none : (x y z : Option Expr) → kind_given x ≡ None → kind_given (if_named x y z) ≡ None
+  test_has_none None y z h = refl
+  test_has_none (Some x) None z h = refl
+  test_has_none (Some x) (Some y) None h = refl
+  test_has_none (Some x) (Some y) (Some z) h = kind_of_if x y z ∙ rw h refl
+
+  first_has_none : (x : Expr) (u : Kind) (y z : Option Expr) → kind_in (expression x) ≡ Some u → kind_given y ≡ None → kind_given (if_named (Some x) y z) ≡ None
+  first_has_none x u None z hx h = refl
+  first_has_none x u (Some y) None hx h = refl
+  first_has_none x u (Some y) (Some z) hx h = kind_of_if x y z ∙ rw (hx, h) (no_common (same_kind u k.Bool))
+
+  second_has_none : (x y : Expr) (u w : Kind) (z : Option Expr) → kind_in (expression x) ≡ Some u → kind_in (expression y) ≡ Some w → kind_given z ≡ None → kind_given (if_named (Some x) (Some y) z) ≡ None
+  second_has_none x y u w None hx hy h = refl
+  second_has_none x y u w (Some z) hx hy h = kind_of_if x y z ∙ rw (hx, hy, h) (no_common (same_kind u k.Bool))
+
+  if_same : (s t : Bool) (w : Kind) → cond s (cond t (Some w) None) None ≡ cond (s && t) (Some w) None
+  if_same true t w = refl
+  if_same false t w = refl
+
+  if_agrees : (d : Fault) (c a b : Found) (x y z : Option Expr) → Agrees c x → Agrees a y → Agrees b z → Agrees (if_found d c a b) (if_named x y z)
+  if_agrees d c a b x y z (wrong f fs fc h) ha hb =
+      wrong f (fs ++ (a.faults ++ b.faults) ++ (choice d c.kind a.kind b.kind).faults) (rw fc refl) (test_has_none x y z h)
+  if_agrees d c a b x y z (right kc u ex fc nx kx is) (wrong f fs fa h) hb =
+      wrong f (fs ++ b.faults ++ (choice d c.kind a.kind b.kind).faults) (rw (fc, fa) refl) (rw nx (first_has_none ex u y z kx h))
+  if_agrees d c a b x y z (right kc u ex fc nx kx is) (right ka w ey fa ny ky is') (wrong f fs fb h) =
+      wrong f (fs ++ (choice d c.kind a.kind b.kind).faults) (rw (fc, fa, fb) refl) (rw (nx, ny) (second_has_none ex ey u w z kx ky h))
+  if_agrees d c a b x y z (right kc u ex fc nx kx is) (right ka w ey fa ny ky is') (right kb t ez fb nz kz is'') =
+      rw (fc, fa, fb, nx, ny, nz) (if_checked d (same_raw_kind kc rk.Bool && same_raw_kind ka kb) ka w (e.If ex ey ez) is' (kind_of_if ex ey ez ∙ (rw (kx, ky, kz) (if_same (same_kind u k.Bool) (same_kind w t) w) ∙ ap₂ (λ s t. cond (s && t) (Some w) None) (sym (same_kinds g.sorts kc rk.Bool u k.Bool is refl)) (sym (same_kinds g.sorts ka kb w t is' is'')))))
+
+  -- ---- constructors
+
+  abbrev row_of : List Expr → Expressions
+  row_of es = expression_row (map expression es)
+
+  abbrev kinds_of : List Expr → List Kid → Bool
+  kinds_of es kids = have_kinds prods occurrences P.kids (row_of es) kids
+
+  abbrev faults_of : List Found → List Fault
+  faults_of fs = flat_map (λ (x : Found). x.faults) fs
+
+  data ArgsAgree (fs : List Found) (xs : List (Option Expr)) : Type 0 where
+    all_right : (es : List Expr) → faults_of fs ≡ [] → each_some xs ≡ Some es → ((raws : List RawKid) (kids : List Kid) → Each (IsKid g.sorts) raws kids → are_right fs raws ≡ kinds_of es kids) → ArgsAgree fs xs
+    unnamed : (c : Fault) (cs : List Fault) → faults_of fs ≡ c ∷ cs → each_some xs ≡ None → ArgsAgree fs xs
+    one_wrong : (c : Fault) (cs : List Fault) (es : List Expr) → faults_of fs ≡ c ∷ cs → each_some xs ≡ Some es → ((kids : List Kid) → kinds_of es kids ≡ false) → ArgsAgree fs xs
+
+  wrong_first : (f : Found) (fs : List Found) (x : Option Expr) (xs : List (Option Expr)) (c : Fault) (cs : List Fault) → f.faults ≡ c ∷ cs → kind_given x ≡ None → (o : Option (List Expr)) → each_some xs ≡ o → ArgsAgree (f ∷ fs) (x ∷ xs)
+  wrong_first f fs None xs c cs e' h o is = unnamed c (cs ++ faults_of fs) (rw e' refl) refl
+  wrong_first f fs (Some z) xs c cs e' h None is = unnamed c (cs ++ faults_of fs) (rw e' refl) (rw is refl)
+  wrong_first f fs (Some z) xs c cs e' h (Some es) is = one_wrong c (cs ++ faults_of fs) (z ∷ es) (rw e' refl) (rw is refl) none
+    where
+      none : (kids : List Kid) → kinds_of (z ∷ es) kids ≡ false
+      none [] = refl
+      none (kid ∷ kids) = rw h refl
+
+  args_more : (f : Found) (fs : List Found) (x : Option Expr) (xs : List (Option Expr)) → Agrees f x → ArgsAgree fs xs → ArgsAgree (f ∷ fs) (x ∷ xs)
+  args_more f fs x xs (wrong c cs e' h) rest = wrong_first f fs x xs c cs e' h (each_some xs) refl
+  args_more f fs x xs (right kind u z ff nx kx is) (unnamed c cs e' n) = unnamed c cs (rw ff e') (rw (nx, n) refl)
+  args_more f fs x xs (right kind u z ff nx kx is) (one_wrong c cs es e' n none) =
+      one_wrong c cs (z ∷ es) (rw ff e') (rw (nx, n) refl) none'
+    where
+      none' : (kids : List Kid) → kinds_of (z ∷ es) kids ≡ false
+      none' [] = refl
+      none' (kid ∷ kids) = and_right (option_map_or (λ x. same_kind x kid.kind) (kind_in (expression z)) false) (kinds_of es kids) (none kids)
+  args_more f fs x xs (right kind u z ff nx kx is) (all_right es e' n same) =
+      all_right (z ∷ es) (rw ff e') (rw (nx, n) refl) same'
+    where
+      same' : (raws : List RawKid) (kids : List Kid) → Each (IsKid g.sorts) raws kids → are_right (f ∷ fs) raws ≡ kinds_of (z ∷ es) kids
+      same' [] [] h = refl
+      same' [] (b ∷ kids) h = absurd h
+      same' (a ∷ raws) [] h = absurd h
+      same' (a ∷ raws) (b ∷ kids) h = rw (ff, kx) (ap₂ ◌&&◌ (same_kinds g.sorts kind a.kind u b.kind is (h.0).kind) (same raws kids h.1))
+
+  no_args : (raws : List RawKid) (kids : List Kid) → Each (IsKid g.sorts) raws kids → are_right [] raws ≡ kinds_of [] kids
+  no_args [] [] h = refl
+  no_args [] (b ∷ kids) h = absurd h
+  no_args (a ∷ raws) [] h = absurd h
+  no_args (a ∷ raws) (b ∷ kids) h = refl
+
+  args_agree : (c : Fault) (args : List RawExpr) → Every (λ x. Agrees (found_of g p c x) (named_expr known x)) args → ArgsAgree (map (found_of g p c) args) (map (named_expr known) args)
+  args_agree c [] h = all_right [] refl refl no_args
+  args_agree c (x ∷ args) h =
+      args_more (found_of g p c x) (map (found_of g p c) args) (named_expr known x) (map (named_expr known) args) h.0 (args_agree c args h.1)
+
+  abbrev make_named : List (Option Expr) → Option ℕ → Option Expr
+  make_named xs q = option_and_then (λ p. option_map (λ es. e.Make p es) (each_some xs)) q
+
+  abbrev IsMade : RawProd → Production → Type 0
+  IsMade q Q = Head g.sorts q Q.left Q.kids Q.extras
+
+  kind_of_make : (i : ℕ) (Q : Production) (es : List Expr) → slice_get prods i ≡ Some Q → kind_given (Some (e.Make i es)) ≡ cond (kinds_of es Q.kids) (Some (k.Sort Q.left)) None
+  kind_of_make i Q es at = ap kind_in (expression-Make i es) ∙ rw at refl
+
+  make_agrees : (c : Fault) (n : Name) (fs : List Found) (xs : List (Option Expr)) → ArgsAgree fs xs → FoundAt IsMade (λ (q : RawProd). bytes_eq q.name n) g.prods prods →
+      Agrees (behind (faults_of fs) (constructed c p.name n fs (find (λ (q : RawProd). bytes_eq q.name n) g.prods))) (make_named xs (number (λ (q : RawProd). bytes_eq q.name n) g.prods))
+  make_agrees c n fs xs (all_right es e' na same) (absent f m) = rw (e', f, m) (at_wrong (fault unknown p.name n) None refl)
+  make_agrees c n fs xs (unnamed d ds e' na) (absent f m) = rw (f, m) (wrong d (ds ++ fault unknown p.name n ∷ []) (rw e' refl) refl)
+  make_agrees c n fs xs (one_wrong d ds es e' na none) (absent f m) = rw (f, m) (wrong d (ds ++ fault unknown p.name n ∷ []) (rw e' refl) refl)
+  make_agrees c n fs xs (all_right es e' na same) (there i q Q f m at is yes') =
+      rw (e', f, m, na) (if_checked c (are_right fs q.kids) (rk.Named q.left) (k.Sort Q.left) (e.Make i es) (rw (is.of_left) refl) (kind_of_make i Q es at ∙ ap (λ t. cond t (Some (k.Sort Q.left)) None) (sym (same q.kids Q.kids (are_kids g.sorts q.kids Q.kids is.of_kids)))))
+  make_agrees c n fs xs (unnamed d ds e' na) (there i q Q f m at is yes') =
+      rw (f, m, na) (wrong d (ds ++ (checked c (are_right fs q.kids) (rk.Named q.left)).faults) (rw e' refl) refl)
+  make_agrees c n fs xs (one_wrong d ds es e' na none) (there i q Q f m at is yes') =
+      rw (f, m, na) (wrong d (ds ++ (checked c (are_right fs q.kids) (rk.Named q.left)).faults) (rw e' refl) (kind_of_make i Q es at ∙ ap (λ t. cond t (Some (k.Sort Q.left)) None) (none Q.kids)))
+
+  -- ---- all expressions
+
+  module _ (c : Fault) where
+    abbrev AgreesAt : RawExpr → Type 0
+    AgreesAt x = Agrees (found_of g p c x) (named_expr known x)
+
+    one_at : (n : Name) → AgreesAt (v.One n)
+    one_at n =
+        rw (found_of-One g p c n, named_expr-One known n, occurrence_at g.sorts sorts named p P head (alone n)) (one_agrees n (means g.sorts p n) (find_alone g.sorts p head.distinct n) (leaf_of_name g.sorts sorts named p P head n))
+
+    two_at : (s a : Name) → AgreesAt (v.Two s a)
+    two_at s a =
+        rw (found_of-Two g p c s a, named_expr-Two known s a, occurrence_at g.sorts sorts named p P head (of_symbol s a)) (two_agrees s a (is_nothing (means g.sorts p s)) (symbol_sort (means g.sorts p s)) (find_symbol g.sorts p head.distinct s a))
+
+    make_at : (n : Name) (args : List RawExpr) → Every AgreesAt args → AgreesAt (v.Make n args)
+    make_at n args h =
+        rw (found_of-Make g p c n args, named_expr-Make known n args, position-number (λ (q : RawProd). bytes_eq q.name n) g.prods) (make_agrees c n (map (found_of g p c) args) (map (named_expr known) args) (args_agree c args h) (found_at IsMade (λ (q : RawProd). bytes_eq q.name n) g.prods prods made))
+
+    pub agrees : (x : RawExpr) → AgreesAt x
+    agrees = by_variant AgreesAt (record {
+      at_int = λ i. right rk.Int k.Int (e.Int i) (found_of-Int g p c i) (named_expr-Int known i) (ap kind_in (expression-Int i)) refl;
+      at_bool = λ b. right rk.Bool k.Bool (e.Bool b) (found_of-Bool g p c b) (named_expr-Bool known b) (ap kind_in (expression-Bool b)) refl;
+      at_name = λ n. right rk.Name k.Name (e.Name n) (found_of-Name g p c n) (named_expr-Name known n) (ap kind_in (expression-Name n)) refl;
+      at_one = one_at;
+      at_two = two_at;
+      at_op = λ op a b ha hb. rw (found_of-Op g p c op a b, named_expr-Op known op a b) (op_agrees c op (found_of g p c a) (found_of g p c b) (named_expr known a) (named_expr known b) ha hb);
+      at_if = λ t a b ht ha hb. rw (found_of-If g p c t a b, named_expr-If known t a b) (if_agrees c (found_of g p c t) (found_of g p c a) (found_of g p c b) (named_expr known t) (named_expr known a) (named_expr known b) ht ha hb);
+      at_make = make_at;
+    })
