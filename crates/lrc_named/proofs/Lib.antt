@@ -7,3 +7,4 @@ pub mod Places
 pub mod Meanings
 pub mod Occurrences
 pub mod Expressions
+pub mod Equations
