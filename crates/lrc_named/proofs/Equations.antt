@@ -235,3 +235,148 @@ module _ (g : RawGrammar) (sorts : List Sort) (named : Each (Names (named_sort g
           let there' : (y.is_defined && option_map_or (same_kind y.kind) (kind_of (expression z)) false) ≡ true = rw at at here in
           let parts = and_parts y.is_defined (option_map_or (same_kind y.kind) (kind_of (expression z)) false) there' in
           record { place = x; found = f; defined = sym is.is_defined ∙ parts.0; kind = y.kind; of_place = is.kind; of_expr = (z, ez, has_kind y (kind_of (expression z)) parts.1) }
+
+  -- ---- one item
+
+  -- of the left side only attributes are defined
+  abbrev pub DefinesLeft : RawItem → Type 0
+  DefinesLeft (item.Local n kind x) = ⊤
+  DefinesLeft (item.Attach n sort x) = ⊤
+  DefinesLeft (item.Own n x) = (a : RawAttr) × (means g.sorts p n ≡ left_attr a)
+  DefinesLeft (item.OfKid c n x) = ⊤
+  DefinesLeft (item.Pattern pieces) = ⊤
+
+  pub record ItemRight (b : List RawItem) (i : RawItem) : Type 0 where
+    pub each : Every RightAt (raw_equations i)
+    pub new : Every (λ t. has_target b t ≡ false) (target_of i)
+    pub defines_left : DefinesLeft i
+    pub pieces : Every (λ pieces. flat_map (piece_faults p) pieces ≡ []) (pattern_of i)
+
+  find_means : (n : Name) (m : Means) → means g.sorts p n ≡ m → find (is_at (alone n)) places ≡ alone_place n m
+  find_means n m e = find_alone g.sorts p head.distinct n ∙ ap (alone_place n) e
+
+  find_sort : (c a : Name) (s : Option Name) → symbol_sort (means g.sorts p c) ≡ s → find (is_at (of_symbol c a)) places ≡ symbol_place_of g.sorts c a s
+  find_sort c a s e = find_symbol g.sorts p head.distinct c a ∙ ap (symbol_place_of g.sorts c a) e
+
+  right_at : (t : Target) (x : RawExpr) (z : Place) (c : Fault) → find (is_at t) places ≡ Some z → z.is_defined ≡ true → expr_faults g p c z.kind x ≡ [] → RightAt (record { target = t; expr = x })
+  right_at t x z c f d e =
+      let known' = place_known t z f in
+      record { place = z; found = f; defined = d; kind = known'.0; of_place = known'.1; of_expr = expr_right c z.kind known'.0 x known'.1 e }
+
+  -- the equations of an item that declares
+  declared_right : (b : List RawItem) (i : RawItem) (rest : List RawItem) (d : Declared) → b ++ i ∷ rest ≡ p.items → declared_by i ≡ d ∷ [] → find (is_at (alone (declared_name d))) places ≡ alone_place (declared_name d) (declared_means (Some d))
+  declared_right b i rest d w e =
+      find_means (declared_name d) (declared_means (Some d)) (means_declared (declared_name d) d (declared_is_found b i rest d w e))
+
+  abbrev twice_defined : List RawItem → Target → List Fault
+  twice_defined b t = where_true (has_target b t) (target_fault double_equation p.name t)
+
+  equation_parts : (b : List RawItem) (t : Target) (kind : RawKind) (x : RawExpr) → equation_faults g p b t kind x ≡ [] → (has_target b t ≡ false) × (expr_faults g p (target_fault wrong_kind p.name t) kind x ≡ [])
+  equation_parts b t kind x e =
+      let parts = empty_parts (twice_defined b t) (expr_faults g p (target_fault wrong_kind p.name t) kind x) e in
+      (none_where (has_target b t) (target_fault double_equation p.name t) parts.0, parts.1)
+
+  equation_faultless : (b : List RawItem) (t : Target) (kind : RawKind) (x : RawExpr) → has_target b t ≡ false → expr_faults g p (target_fault wrong_kind p.name t) kind x ≡ [] → equation_faults g p b t kind x ≡ []
+  equation_faultless b t kind x h e =
+      empty_both (twice_defined b t) (expr_faults g p (target_fault wrong_kind p.name t) kind x) (where_none (has_target b t) (target_fault double_equation p.name t) h) e
+
+  own_right : (b : List RawItem) (n : Name) (x : RawExpr) (m : Means) → means g.sorts p n ≡ m → own_equation g p b n x m ≡ [] → ItemRight b (item.Own n x)
+  own_right b n x nothing is e = absurd (cc)
+  own_right b n x (left_attr a) is e = by a.inherited refl e
+    where
+      by : (inh : Bool) → a.inherited ≡ inh → cond inh (fault not_normal p.name n ∷ []) (equation_faults g p b (alone n) a.kind x) ≡ [] → ItemRight b (item.Own n x)
+      by true h e = absurd (cc)
+      by false h e =
+          let parts = equation_parts b (alone n) a.kind x e in
+          record {
+            each = (right_at (alone n) x (own_place a) (target_fault wrong_kind p.name (alone n)) (find_means n (left_attr a) is) (ap not h) parts.1, tt);
+            new = (parts.0, tt);
+            defines_left = (a, is);
+            pieces = tt;
+          }
+  own_right b n x (leaf kind) is e = absurd (cc)
+  own_right b n x (symbol sort) is e = absurd (cc)
+  own_right b n x (value kind) is e = absurd (cc)
+  own_right b n x (tree sort) is e = absurd (cc)
+
+  attr_right : (b : List RawItem) (c a : Name) (x : RawExpr) (attr : Option RawAttr) → find (is_at (of_symbol c a)) places ≡ option_map (symbol_place c) attr → attr_equation g p b c a x attr ≡ [] → ItemRight b (item.OfKid c a x)
+  attr_right b c a x None f e = absurd (cc)
+  attr_right b c a x (Some attr) f e = by attr.inherited refl e
+    where
+      by : (inh : Bool) → attr.inherited ≡ inh → cond inh (equation_faults g p b (of_symbol c a) attr.kind x) (fault_of not_normal p.name c a ∷ []) ≡ [] → ItemRight b (item.OfKid c a x)
+      by false h e = absurd (cc)
+      by true h e =
+          let parts = equation_parts b (of_symbol c a) attr.kind x e in
+          record {
+            each = (right_at (of_symbol c a) x (symbol_place c attr) (target_fault wrong_kind p.name (of_symbol c a)) f h parts.1, tt);
+            new = (parts.0, tt);
+            defines_left = tt;
+            pieces = tt;
+          }
+
+  symbol_right : (b : List RawItem) (c a : Name) (x : RawExpr) (missing : Bool) (s : Option Name) → symbol_sort (means g.sorts p c) ≡ s → symbol_equation g p b c a x missing s ≡ [] → ItemRight b (item.OfKid c a x)
+  symbol_right b c a x missing None is e = absurd (cc)
+  symbol_right b c a x missing (Some sort) is e = attr_right b c a x (attr_in_sort g.sorts sort a) (find_sort c a (Some sort) is) e
+
+  pub item_right : (b : List RawItem) (i : RawItem) (rest : List RawItem) → b ++ i ∷ rest ≡ p.items → item_faults g p b i ≡ [] → ItemRight b i
+  item_right b (item.Local n kind x) rest w e = record {
+    each = (right_at (alone n) x (value_place n kind) (fault wrong_kind p.name n) (declared_right b (item.Local n kind x) rest (local n kind) w refl) refl e, tt);
+    new = tt;
+    defines_left = tt;
+    pieces = tt;
+  }
+  item_right b (item.Attach n sort x) rest w e = record {
+    each = (right_at (alone n) x (value_place n (rk.Named sort)) (fault wrong_kind p.name n) (declared_right b (item.Attach n sort x) rest (attached n sort) w refl) refl e, tt);
+    new = tt;
+    defines_left = tt;
+    pieces = tt;
+  }
+  item_right b (item.Own n x) rest w e = own_right b n x (means g.sorts p n) refl e
+  item_right b (item.OfKid c a x) rest w e = symbol_right b c a x (is_nothing (means g.sorts p c)) (symbol_sort (means g.sorts p c)) refl e
+  item_right b (item.Pattern pieces) rest w e = record { each = tt; new = tt; defines_left = tt; pieces = (e, tt) }
+
+  -- ---- and back
+
+  -- the expression of an equation that is right has no fault at the kind of its place
+  right_faultless : (r : RawEquation) (h : RightAt r) (z : Place) (c : Fault) → find (is_at r.target) places ≡ Some z → (expr_faults g p c z.kind r.expr ≡ []) × (z.is_defined ≡ true)
+  right_faultless r h z c f =
+      let same : h.place ≡ z = (let both : Some h.place ≡ Some z = sym h.found ∙ f in cc) in
+      (expr_faultless c z.kind h.kind r.expr (subst (λ (y : Place). named_kind g.sorts y.kind ≡ Some h.kind) same h.of_place) h.of_expr, subst (λ (y : Place). y.is_defined ≡ true) same h.defined)
+
+  own_faultless : (b : List RawItem) (n : Name) (x : RawExpr) (a : RawAttr) → means g.sorts p n ≡ left_attr a → RightAt (record { target = alone n; expr = x }) → has_target b (alone n) ≡ false → own_equation g p b n x (left_attr a) ≡ []
+  own_faultless b n x a is h new = by a.inherited parts.1
+    where
+      parts : (expr_faults g p (target_fault wrong_kind p.name (alone n)) a.kind x ≡ []) × (not a.inherited ≡ true)
+      parts = right_faultless (record { target = alone n; expr = x }) h (own_place a) (target_fault wrong_kind p.name (alone n)) (find_means n (left_attr a) is)
+
+      by : (inh : Bool) → not inh ≡ true → cond inh (fault not_normal p.name n ∷ []) (equation_faults g p b (alone n) a.kind x) ≡ []
+      by true h = absurd (cc)
+      by false h = equation_faultless b (alone n) a.kind x new parts.0
+
+  attr_faultless : (b : List RawItem) (c a : Name) (x : RawExpr) (attr : Option RawAttr) → find (is_at (of_symbol c a)) places ≡ option_map (symbol_place c) attr → RightAt (record { target = of_symbol c a; expr = x }) → has_target b (of_symbol c a) ≡ false →
+      attr_equation g p b c a x attr ≡ []
+  attr_faultless b c a x None f h new = absurd (let both : Some h.place ≡ None = sym h.found ∙ f in cc)
+  attr_faultless b c a x (Some attr) f h new = by attr.inherited parts.1
+    where
+      parts : (expr_faults g p (target_fault wrong_kind p.name (of_symbol c a)) attr.kind x ≡ []) × (attr.inherited ≡ true)
+      parts = right_faultless (record { target = of_symbol c a; expr = x }) h (symbol_place c attr) (target_fault wrong_kind p.name (of_symbol c a)) f
+
+      by : (inh : Bool) → inh ≡ true → cond inh (equation_faults g p b (of_symbol c a) attr.kind x) (fault_of not_normal p.name c a ∷ []) ≡ []
+      by false h = absurd (cc)
+      by true h = equation_faultless b (of_symbol c a) attr.kind x new parts.0
+
+  symbol_faultless : (b : List RawItem) (c a : Name) (x : RawExpr) (missing : Bool) (s : Option Name) → symbol_sort (means g.sorts p c) ≡ s → RightAt (record { target = of_symbol c a; expr = x }) → has_target b (of_symbol c a) ≡ false →
+      symbol_equation g p b c a x missing s ≡ []
+  symbol_faultless b c a x missing None is h new = absurd (let both : Some h.place ≡ None = sym h.found ∙ find_sort c a None is in cc)
+  symbol_faultless b c a x missing (Some sort) is h new = attr_faultless b c a x (attr_in_sort g.sorts sort a) (find_sort c a (Some sort) is) h new
+
+  pub item_faultless : (b : List RawItem) (i : RawItem) (rest : List RawItem) → b ++ i ∷ rest ≡ p.items → ItemRight b i → item_faults g p b i ≡ []
+  item_faultless b (item.Local n kind x) rest w h =
+      (right_faultless (record { target = alone n; expr = x }) h.each.0 (value_place n kind) (fault wrong_kind p.name n) (declared_right b (item.Local n kind x) rest (local n kind) w refl)).0
+  item_faultless b (item.Attach n sort x) rest w h =
+      (right_faultless (record { target = alone n; expr = x }) h.each.0 (value_place n (rk.Named sort)) (fault wrong_kind p.name n) (declared_right b (item.Attach n sort x) rest (attached n sort) w refl)).0
+  item_faultless b (item.Own n x) rest w h =
+      ap (own_equation g p b n x) h.defines_left.1 ∙ own_faultless b n x h.defines_left.0 h.defines_left.1 h.each.0 h.new.0
+  item_faultless b (item.OfKid c a x) rest w h =
+      symbol_faultless b c a x (is_nothing (means g.sorts p c)) (symbol_sort (means g.sorts p c)) refl h.each.0 h.new.0
+  item_faultless b (item.Pattern pieces) rest w h = h.pieces.0
