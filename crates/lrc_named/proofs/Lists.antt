@@ -1,8 +1,9 @@
 -- Lists: numbers of first items, lists that are named item by item, and what holds of each item with those before it.
-use Rattle.std.proofs.Common.{◌≡◌, ℕ, zero, suc, ◌+◌, ◌<◌, ◌≤◌, Bool, true, false, not, ◌&&◌, ◌||◌, ◌⊎◌, inl, inr, cond, List, [], ◌∷◌, ◌++◌, map, flat_map, length, slice_get, position, find, Option, Some, None, nat_lt, refl, sym, ap, ap₂, ◌∙◌, subst, arith, one-add, append_assoc, append-nil, le-ltb, lt-ltb}
+use Rattle.std.proofs.Common.{◌≡◌, ℕ, zero, suc, ◌+◌, ◌<◌, ◌≤◌, Bool, true, false, not, ◌&&◌, ◌||◌, ◌⊎◌, inl, inr, cond, List, [], ◌∷◌, ◌++◌, map, flat_map, length, slice_get, position, find, count_by, Option, Some, None, nat_lt, refl, sym, ap, ap₂, ◌∙◌, subst, arith, one-add, append_assoc, append-nil, le-ltb, lt-ltb}
 use Rattle.std.specs.Prelude.{option_map, option_and_then, ⊤}
-use Rattle.std.specs.List.{list_any, list_all, position_or_len}
+use Rattle.std.specs.List.{list_any, list_all, position_or_len, range_with_len}
 use Rattle.std.proofs.lemmas.Bool.{cases_Bool, cases_lt, and_parts, and_from}
+use Rattle.std.proofs.lemmas.List.Sums.{sum_by-cons}
 use Rattle.lrc_meaning.specs.Naming.{each_some}
 use Rattle.lrc_faults.specs.Faults.{Fault, each_after, first, where_true}
 
@@ -297,3 +298,78 @@ module _ {A : Type 0} (P : A → Type 0) where
   pub after_of_every : (before xs : List A) → Every P xs → After (λ b x. P x) before xs
   after_of_every before [] h = tt
   after_of_every before (x ∷ xs) h = (h.0, after_of_every (before ++ x ∷ []) xs h.1)
+
+-- ---- how many pass
+
+abbrev pub tally : {A : Type 0} → (A → Bool) → List A → ℕ
+tally p [] = 0
+tally p (x ∷ xs) = cond (p x) 1 0 + tally p xs
+
+module _ {A : Type 0} (p : A → Bool) where
+  pub count-tally : (xs : List A) → count_by p xs ≡ tally p xs
+  count-tally [] = refl
+  count-tally (x ∷ xs) = sum_by-cons (λ y. cond (p y) 1 0) x xs ∙ ap (λ n. cond (p x) 1 0 + n) (count-tally xs)
+
+  pub tally-append : (xs ys : List A) → tally p (xs ++ ys) ≡ tally p xs + tally p ys
+  tally-append [] ys = omega arith
+  tally-append (x ∷ xs) ys = let rest = tally-append xs ys in omega arith
+
+  pub tally_none : (xs : List A) → list_any p xs ≡ false → tally p xs ≡ 0
+  tally_none [] e = refl
+  tally_none (x ∷ xs) e = by (p x) (tally_none xs) e
+    where
+      by : (b : Bool) → (list_any p xs ≡ false → tally p xs ≡ 0) → (b || list_any p xs) ≡ false → cond b 1 0 + tally p xs ≡ 0
+      by true rest e = absurd (cc)
+      by false rest e = let none = rest e in omega arith
+
+  pub none_tally : (xs : List A) → tally p xs ≡ 0 → list_any p xs ≡ false
+  none_tally [] e = refl
+  none_tally (x ∷ xs) e = by (p x) (none_tally xs) e
+    where
+      by : (b : Bool) → (tally p xs ≡ 0 → list_any p xs ≡ false) → cond b 1 0 + tally p xs ≡ 0 → (b || list_any p xs) ≡ false
+      by true rest e = absurd (omega arith)
+      by false rest e = rest (omega arith)
+
+  pub tally_some : (xs : List A) → list_any p xs ≡ true → 1 ≤ tally p xs
+  tally_some [] e = absurd (cc)
+  tally_some (x ∷ xs) e = by (p x) (tally_some xs) e
+    where
+      by : (b : Bool) → (list_any p xs ≡ true → 1 ≤ tally p xs) → (b || list_any p xs) ≡ true → 1 ≤ cond b 1 0 + tally p xs
+      by true rest e = omega arith
+      by false rest e = let some = rest e in omega arith
+
+  pub some_tally : (xs : List A) → 1 ≤ tally p xs → list_any p xs ≡ true
+  some_tally [] e = absurd (omega arith)
+  some_tally (x ∷ xs) e = by (p x) (some_tally xs) e
+    where
+      by : (b : Bool) → (1 ≤ tally p xs → list_any p xs ≡ true) → 1 ≤ cond b 1 0 + tally p xs → (b || list_any p xs) ≡ true
+      by true rest e = refl
+      by false rest e = rest (omega arith)
+
+  pub every_found : (P : A → Type 0) (xs : List A) (x : A) → Every P xs → find p xs ≡ Some x → P x × (p x ≡ true)
+  every_found P [] x h e = absurd (cc)
+  every_found P (y ∷ xs) x h e = by (p y) refl (every_found P xs x h.1) e
+    where
+      by : (b : Bool) → p y ≡ b → (find p xs ≡ Some x → P x × (p x ≡ true)) → cond b (Some y) (find p xs) ≡ Some x → P x × (p x ≡ true)
+      by true is rest e = let same : y ≡ x = cc in subst (λ z. P z × (p z ≡ true)) same (h.0, is)
+      by false is rest e = rest e
+
+pub each_tally : {A B : Type 0} (R : A → B → Type 0) (p : A → Bool) (q : B → Bool) → ((x : A) (y : B) → R x y → q y ≡ p x) → (xs : List A) (ys : List B) → Each R xs ys → tally q ys ≡ tally p xs
+each_tally R p q h [] [] k = refl
+each_tally R p q h [] (y ∷ ys) k = absurd k
+each_tally R p q h (x ∷ xs) [] k = absurd k
+each_tally R p q h (x ∷ xs) (y ∷ ys) k = ap₂ (λ b n. cond b 1 0 + n) (h x y k.0) (each_tally R p q h xs ys k.1)
+
+pub each_at : {A B : Type 0} (R : A → B → Type 0) (xs : List A) (ys : List B) (j : ℕ) (x : A) → Each R xs ys → slice_get xs j ≡ Some x → (y : B) × (slice_get ys j ≡ Some y) × R x y
+each_at R [] [] j x h e = absurd (cc)
+each_at R [] (y ∷ ys) j x h e = absurd h
+each_at R (z ∷ xs) [] j x h e = absurd h
+each_at R (z ∷ xs) (y ∷ ys) zero x h e = let same : z ≡ x = cc in (y, refl, subst (λ w. R w y) same h.0)
+each_at R (z ∷ xs) (y ∷ ys) (suc j) x h e = each_at R xs ys j x h.1 e
+
+-- a test of each number below the length is a test of each item
+pub range_all : {A : Type 0} (t : ℕ → Bool) (q : A → Bool) (k : ℕ) (xs : List A) → ((j : ℕ) (x : A) → slice_get xs j ≡ Some x → t (k + j) ≡ q x) → list_all t (range_with_len k (length xs)) ≡ list_all q xs
+range_all t q k [] h = refl
+range_all t q k (x ∷ xs) h =
+    let here : k + 0 ≡ k = omega arith in
+    ap₂ ◌&&◌ (subst (λ m. t m ≡ q x) here (h 0 x refl)) (range_all t q (k + 1) xs (λ j y e. let next : k + suc j ≡ k + 1 + j = omega arith in subst (λ m. t m ≡ q y) next (h (suc j) y e)))
