@@ -8,3 +8,4 @@ pub mod Meanings
 pub mod Occurrences
 pub mod Expressions
 pub mod Equations
+pub mod Distinct

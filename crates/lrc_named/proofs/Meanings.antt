@@ -54,28 +54,28 @@ attr_in_symbol c a (b ∷ attrs) = rw (own_name c) (by (bytes_eq b.name a) (attr
     by false rest = rest
 
 module _ (raw : List RawSort) (p : RawProd) (distinct : all_distinct (own_names raw p) ≡ true) where
-  lefts : Parted (attr_names raw p.left) (kid_names p.kids ++ map declared_name (declared_in p.items))
+  pub lefts : Parted (attr_names raw p.left) (kid_names p.kids ++ map declared_name (declared_in p.items))
   lefts = distinct_parts (attr_names raw p.left) (kid_names p.kids ++ map declared_name (declared_in p.items)) distinct
 
-  rights : Parted (kid_names p.kids) (map declared_name (declared_in p.items))
+  pub rights : Parted (kid_names p.kids) (map declared_name (declared_in p.items))
   rights = distinct_parts (kid_names p.kids) (map declared_name (declared_in p.items)) lefts.back
 
-  abbrev attr_name : RawAttr → Name
+  abbrev pub attr_name : RawAttr → Name
   attr_name a = a.name
 
-  abbrev kid_name : RawKid → Name
+  abbrev pub kid_name : RawKid → Name
   kid_name k = k.name
 
-  abbrev own_group : RawAttr → List Place
+  abbrev pub own_group : RawAttr → List Place
   own_group a = own_place a ∷ []
 
-  under_own : (a : RawAttr) → Every (λ y. head_at y ≡ a.name) (own_group a)
+  pub under_own : (a : RawAttr) → Every (λ y. head_at y ≡ a.name) (own_group a)
   under_own a = (refl, tt)
 
-  under_kid : (k : RawKid) → Every (λ y. head_at y ≡ k.name) (kid_places raw k)
+  pub under_kid : (k : RawKid) → Every (λ y. head_at y ≡ k.name) (kid_places raw k)
   under_kid k = under_symbols k.name (attrs_of_kind raw k.kind)
 
-  under_declared : (d : Declared) → Every (λ y. head_at y ≡ declared_name d) (declared_places raw d)
+  pub under_declared : (d : Declared) → Every (λ y. head_at y ≡ declared_name d) (declared_places raw d)
   under_declared (local n kind) = (refl, tt)
   under_declared (attached n sort) = (refl, under_symbols n (attrs_named raw sort))
 
