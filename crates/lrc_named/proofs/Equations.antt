@@ -73,7 +73,7 @@ one_kind (k.Sort r) (k.Sort s) h = ap k.Sort ((Decides-eqb r s).0 h)
 
 -- ---- what a declared name means
 
-flat_map_both : {A B : Type 0} (f : A → List B) (xs ys : List A) → flat_map f (xs ++ ys) ≡ flat_map f xs ++ flat_map f ys
+pub flat_map_both : {A B : Type 0} (f : A → List B) (xs ys : List A) → flat_map f (xs ++ ys) ≡ flat_map f xs ++ flat_map f ys
 flat_map_both f [] ys = refl
 flat_map_both f (x ∷ xs) ys = ap (λ l. f x ++ l) (flat_map_both f xs ys) ∙ sym (append_assoc (f x) (flat_map f xs) (flat_map f ys))
 
@@ -96,13 +96,13 @@ declared_split : (b : List RawItem) (i : RawItem) (rest : List RawItem) (d : Dec
 declared_split b i rest d e = flat_map_both declared_by b (i ∷ rest) ∙ ap (λ l. declared_in b ++ (l ++ declared_in rest)) e
 
 module _ (g : RawGrammar) (sorts : List Sort) (named : Each (Names (named_sort g.sorts)) g.sorts sorts) (p : RawProd) (P : Production) (head : Head g.sorts p P.left P.kids P.extras) (prods : List Production) (made : Each (λ q Q. Head g.sorts q Q.left Q.kids Q.extras) g.prods prods) where
-  abbrev places : List Place
+  abbrev pub places : List Place
   places = places_of g.sorts p
 
-  abbrev occurrences : List Occurrence
+  abbrev pub occurrences : List Occurrence
   occurrences = occurrences_of sorts P
 
-  abbrev names : Known
+  abbrev pub names : Known
   names = known g sorts named p P head prods made
 
   abbrev kind_of : Expression → Option Kind

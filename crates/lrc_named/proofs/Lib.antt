@@ -9,3 +9,4 @@ pub mod Occurrences
 pub mod Expressions
 pub mod Equations
 pub mod Distinct
+pub mod Counts

@@ -2,7 +2,7 @@
 use Rattle.std.proofs.Common.{◌≡◌, ℕ, zero, suc, ◌+◌, ◌<◌, ◌≤◌, Bool, true, false, not, ◌&&◌, ◌||◌, ◌⊎◌, inl, inr, cond, List, [], ◌∷◌, ◌++◌, map, flat_map, length, slice_get, position, find, count_by, Option, Some, None, nat_lt, refl, sym, ap, ap₂, ◌∙◌, subst, arith, one-add, append_assoc, append-nil, le-ltb, lt-ltb}
 use Rattle.std.specs.Prelude.{option_map, option_and_then, ⊤}
 use Rattle.std.specs.List.{list_any, list_all, position_or_len, range_with_len}
-use Rattle.std.proofs.lemmas.Bool.{cases_Bool, cases_lt, and_parts, and_from}
+use Rattle.std.proofs.lemmas.Bool.{cases_Bool, cases_lt, and_parts, and_from, or_parts, or_from}
 use Rattle.std.proofs.lemmas.List.Sums.{sum_by-cons}
 use Rattle.lrc_meaning.specs.Naming.{each_some}
 use Rattle.lrc_faults.specs.Faults.{Fault, each_after, first, where_true}
@@ -373,3 +373,37 @@ range_all t q k [] h = refl
 range_all t q k (x ∷ xs) h =
     let here : k + 0 ≡ k = omega arith in
     ap₂ ◌&&◌ (subst (λ m. t m ≡ q x) here (h 0 x refl)) (range_all t q (k + 1) xs (λ j y e. let next : k + suc j ≡ k + 1 + j = omega arith in subst (λ m. t m ≡ q y) next (h (suc j) y e)))
+
+module _ {A : Type 0} where
+  pub every_with : (P Q S : A → Type 0) → ((x : A) → P x → Q x → S x) → (xs : List A) → Every P xs → Every Q xs → Every S xs
+  every_with P Q S f [] h k = tt
+  every_with P Q S f (x ∷ xs) h k = (f x h.0 k.0, every_with P Q S f xs h.1 k.1)
+
+  pub every_mapped : {B : Type 0} (P : B → Type 0) (f : A → B) (xs : List A) → Every (λ x. P (f x)) xs → Every P (map f xs)
+  every_mapped P f [] h = tt
+  every_mapped P f (x ∷ xs) h = (h.0, every_mapped P f xs h.1)
+
+  pub every_of_mapped : {B : Type 0} (P : B → Type 0) (f : A → B) (xs : List A) → Every P (map f xs) → Every (λ x. P (f x)) xs
+  every_of_mapped P f [] h = tt
+  every_of_mapped P f (x ∷ xs) h = (h.0, every_of_mapped P f xs h.1)
+
+  pub any_mapped : {B : Type 0} (q : B → Bool) (f : A → B) (xs : List A) → list_any q (map f xs) ≡ list_any (λ x. q (f x)) xs
+  any_mapped q f [] = refl
+  any_mapped q f (x ∷ xs) = ap (λ b. q (f x) || b) (any_mapped q f xs)
+
+  pub every_fails : (q : A → Bool) (xs : List A) → list_any q xs ≡ false → Every (λ x. q x ≡ false) xs
+  every_fails q [] e = tt
+  every_fails q (x ∷ xs) e = let parts = or_parts (q x) (list_any q xs) e in (parts.0, every_fails q xs parts.1)
+
+  pub none_passes : (q : A → Bool) (xs : List A) → Every (λ x. q x ≡ false) xs → list_any q xs ≡ false
+  none_passes q [] h = refl
+  none_passes q (x ∷ xs) h = or_from (q x) (list_any q xs) h.0 (none_passes q xs h.1)
+
+  -- where a fact holds of each item behind others, by the whole list
+  pub after_of_whole : (Q : List A → A → Type 0) (before xs whole : List A) → before ++ xs ≡ whole → ((b : List A) (x : A) (rest : List A) → b ++ x ∷ rest ≡ whole → Q b x) → After Q before xs
+  after_of_whole Q before [] whole e f = tt
+  after_of_whole Q before (x ∷ xs) whole e f =
+      (f before x xs e, after_of_whole Q (before ++ x ∷ []) xs whole (append_assoc before (x ∷ []) xs ∙ e) f)
+
+  pub every_middle : (P : A → Type 0) (before : List A) (x : A) (rest : List A) → Every P (before ++ x ∷ rest) → P x
+  every_middle P before x rest h = (every_parts P before (x ∷ rest) h).1.0

@@ -1,0 +1,178 @@
+-- Each place that is to be defined has one equation exactly where no target is defined twice, none is missing, and
+-- what is declared has no other equation.
+use Rattle.std.proofs.Common.{◌≡◌, ℕ, zero, suc, ◌+◌, ◌≤◌, Bool, true, false, not, ◌&&◌, ◌||◌, cond, ◌⊎◌, inl, inr, List, [], ◌∷◌, ◌++◌, map, flat_map, length, find, slice_get, count_by, ◌==◌, nat_eq, Option, Some, None, bytes_eq, refl, sym, ap, ap₂, ◌∙◌, subst, arith, append-nil, append_assoc}
+use Rattle.std.specs.Prelude.{option_map, option_and_then, ⊤}
+use Rattle.std.specs.Option.{option_map_or}
+use Rattle.std.specs.List.{list_any, list_all, range_with_len}
+use Rattle.std.proofs.lemmas.Bool.{cases_Bool, and_parts, and_from, or_parts, or_from, or_left, or_right, not-true, not-false, not_from_true, not_from_false, both_ways, false_from_ne_true}
+use Rattle.std.proofs.lemmas.Bool.Decides.{Decides-eqb}
+use Rattle.std.proofs.lemmas.List.Folds.{list_any-append}
+use Rattle.lrc_base.specs.declared.grammar.Sort.{Sort}
+use Rattle.lrc_base.specs.declared.grammar.Equation.{Equation}
+use Rattle.lrc_base.specs.declared.grammar.Production.{Production}
+use Rattle.lrc_base.specs.declared.expr.Expr.{Expr}
+use Rattle.lrc_base.specs.declared.raw.RawKind.{RawKind}
+use Rattle.lrc_base.specs.declared.raw.RawAttr.{RawAttr}
+use Rattle.lrc_base.specs.declared.raw.RawSort.{RawSort}
+use Rattle.lrc_base.specs.declared.raw.RawKid.{RawKid}
+use Rattle.lrc_base.specs.declared.raw.RawItem.{RawItem}
+use Rattle.lrc_base.specs.declared.raw.RawItem.TheVariants as item
+use Rattle.lrc_base.specs.declared.raw.RawProd.{RawProd}
+use Rattle.lrc_base.specs.declared.raw.RawGrammar.{RawGrammar}
+use Rattle.lrc_base.specs.declared.raw.RawExpr.{RawExpr}
+use Rattle.lrc_meaning.specs.Grammar.{Occurrence, occurrences_of, is_defined_once, all_distinct}
+use Rattle.lrc_meaning.specs.Naming.{named_sort, named_expr}
+use Rattle.lrc_faults.specs.Faults.{Name, Fault, is_among, where_true, missing_equation, attrs_named, attrs_of_kind, attr_names, kid_names, Declared, local, attached, declared_by, declared_name, Means, nothing, left_attr, leaf, symbol, value, tree, means, left_or_other, kid_or_declared, kid_means, declared_means, Target, same_target, target_of, has_target, target_fault, missing_target, missing_of_left, missing_of_symbol, missing_of_kid, missing_of_declared, missing}
+use Rattle.lrc_named.proofs.Lists.{number, Every, every_from, every_parts, every_both, every_flat, every_of_flat, every_with, every_mapped, every_of_mapped, every_fails, none_passes, every_found, every_passes, all_pass, every_middle, any_mapped, Each, each_length, each_at, each_tally, range_all, Names, After, after_from, after_of_whole, empty_parts, empty_both, empty_each, each_empty, none_where, where_none, tally, count-tally, tally-append, tally_none, none_tally, tally_some, some_tally}
+use Rattle.lrc_named.proofs.Names.{same_name, own_name, names_swap, any_named, called, name_among}
+use Rattle.lrc_named.proofs.Sorts.{AreDistinct}
+use Rattle.lrc_named.proofs.Heads.{declared_in, declared_kind, is_attached, own_names, Head}
+use Rattle.lrc_named.proofs.Patterns.{AtMostOne}
+use Rattle.lrc_named.proofs.Places.{Place, own_place, symbol_place, value_place, kid_places, declared_places, places_of, is_at, target_at}
+use Rattle.lrc_named.proofs.Meanings.{alone, of_symbol, alone_place, find_alone, lefts, rights}
+use Rattle.lrc_named.proofs.Occurrences.{Stands, stand, occurrence_at}
+use Rattle.lrc_named.proofs.Distinct.{one_target, own_target, number_is, places_apart}
+use Rattle.lrc_named.proofs.Equations.{RawEquation, raw_equations, flat_map_both, names, named_raw, RightAt, DefinesLeft, means_declared}
+
+-- ---- targets that are defined once
+
+abbrev pub IsNewTarget : List RawItem → RawItem → Type 0
+IsNewTarget b i = Every (λ t. has_target b t ≡ false) (target_of i)
+
+one_target_each : (i : RawItem) → AtMostOne (target_of i)
+one_target_each (item.Local n kind x) = tt
+one_target_each (item.Attach n sort x) = tt
+one_target_each (item.Own n x) = tt
+one_target_each (item.OfKid c n x) = tt
+one_target_each (item.Pattern pieces) = tt
+
+has_more : (b : List RawItem) (i : RawItem) (t : Target) → has_target (b ++ i ∷ []) t ≡ (has_target b t || list_any (same_target t) (target_of i))
+has_more b i t =
+    ap (list_any (same_target t)) (flat_map_both target_of b (i ∷ []) ∙ ap (λ l. flat_map target_of b ++ l) (append-nil (target_of i)))
+    ∙ list_any-append (same_target t) (flat_map target_of b) (target_of i)
+
+abbrev OnceMore : Target → List RawItem → List Target → Type 0
+OnceMore t b ts = (has_target b t ≡ true → tally (same_target t) ts ≡ 0) × (tally (same_target t) ts ≤ 1)
+
+once_more : (t : Target) (b : List RawItem) (i : RawItem) (rest ts : List Target) → target_of i ≡ ts → AtMostOne ts → Every (λ s. has_target b s ≡ false) ts → OnceMore t (b ++ i ∷ []) rest → OnceMore t b (ts ++ rest)
+once_more t b i rest [] is one new h =
+    (λ e. h.0 (has_more b i t ∙ or_left (has_target b t) (list_any (same_target t) (target_of i)) e), h.1)
+once_more t b i rest (s ∷ []) is one new h = by (same_target t s) refl
+  where
+    by : (c : Bool) → same_target t s ≡ c → (has_target b t ≡ true → cond c 1 0 + tally (same_target t) rest ≡ 0) × (cond c 1 0 + tally (same_target t) rest ≤ 1)
+    by true e =
+        let now : has_target (b ++ i ∷ []) t ≡ true = has_more b i t ∙ or_right (has_target b t) (list_any (same_target t) (target_of i)) (rw is (or_left (same_target t s) false e)) in
+        let none : tally (same_target t) rest ≡ 0 = h.0 now in
+        (λ k. absurd (both_ways (has_target b t) (subst (λ u. has_target b u ≡ false) (sym (one_target t s e)) new.0) k), omega arith)
+    by false e =
+        (λ k. let none = h.0 (has_more b i t ∙ or_left (has_target b t) (list_any (same_target t) (target_of i)) k) in omega arith, let le = h.1 in omega arith)
+once_more t b i rest (s ∷ (u ∷ ts)) is one new h = absurd one
+
+pub targets_once : (t : Target) (b items : List RawItem) → After IsNewTarget b items → OnceMore t b (flat_map target_of items)
+targets_once t b [] h = (λ e. refl, omega arith)
+targets_once t b (i ∷ items) h =
+    once_more t b i (flat_map target_of items) (target_of i) refl (one_target_each i) h.0 (targets_once t (b ++ i ∷ []) items h.1)
+
+-- ---- equations by what declares them and by what targets them
+
+abbrev pub hits : Place → RawEquation → Bool
+hits x r = is_at r.target x
+
+abbrev pub declared_hits : Place → Declared → Bool
+declared_hits x d = is_at (alone (declared_name d)) x
+
+abbrev pub target_hits : Place → Target → Bool
+target_hits x t = is_at t x
+
+pub split_tally : (x : Place) (items : List RawItem) → tally (hits x) (flat_map raw_equations items) ≡ tally (declared_hits x) (flat_map declared_by items) + tally (target_hits x) (flat_map target_of items)
+split_tally x [] = omega arith
+split_tally x (item.Local n kind y ∷ items) = let rest = split_tally x items in omega arith
+split_tally x (item.Attach n sort y ∷ items) = let rest = split_tally x items in omega arith
+split_tally x (item.Own n y ∷ items) = let rest = split_tally x items in omega arith
+split_tally x (item.OfKid c n y ∷ items) = let rest = split_tally x items in omega arith
+split_tally x (item.Pattern pieces ∷ items) = split_tally x items
+
+-- ---- names that are distinct are met once
+
+module _ {A : Type 0} (name : A → Name) where
+  pub distinct_tally : (n : Name) (xs : List A) → all_distinct (map name xs) ≡ true → is_among (map name xs) n ≡ true → tally (λ y. bytes_eq n (name y)) xs ≡ 1
+  distinct_tally n [] d e = absurd (cc)
+  distinct_tally n (x ∷ xs) d e = by (bytes_eq n (name x)) refl e (distinct_tally n xs parts.1)
+    where
+      parts : (not (list_any (bytes_eq (name x)) (map name xs)) ≡ true) × (all_distinct (map name xs) ≡ true)
+      parts = and_parts (not (list_any (bytes_eq (name x)) (map name xs))) (all_distinct (map name xs)) d
+
+      by : (b : Bool) → bytes_eq n (name x) ≡ b → (b || is_among (map name xs) n) ≡ true → (is_among (map name xs) n ≡ true → tally (λ y. bytes_eq n (name y)) xs ≡ 1) → cond b 1 0 + tally (λ y. bytes_eq n (name y)) xs ≡ 1
+      by true is e rest =
+          let other : is_among (map name xs) n ≡ false = subst (λ m. is_among (map name xs) m ≡ false) (sym (same_name n (name x) is)) (not-true (list_any (bytes_eq (name x)) (map name xs)) parts.0) in
+          let none : tally (λ y. bytes_eq n (name y)) xs ≡ 0 = tally_none (λ y. bytes_eq n (name y)) xs (sym (any_mapped (bytes_eq n) name xs) ∙ other) in
+          omega arith
+      by false is e rest = let one = rest e in omega arith
+
+  pub every_among : (xs : List A) → Every (λ x. is_among (map name xs) (name x) ≡ true) xs
+  every_among [] = tt
+  every_among (x ∷ xs) =
+      (or_left (bytes_eq (name x) (name x)) (is_among (map name xs) (name x)) (own_name (name x)), every_from (λ y. is_among (map name (x ∷ xs)) (name y) ≡ true) (λ y. is_among (map name xs) (name y) ≡ true) (λ y e. or_right (bytes_eq (name y) (name x)) (is_among (map name xs) (name y)) e) xs (every_among xs))
+
+  pub every_finds : (xs : List A) → all_distinct (map name xs) ≡ true → Every (λ x. find (called name (name x)) xs ≡ Some x) xs
+  every_finds [] d = tt
+  every_finds (x ∷ xs) d =
+      let parts = and_parts (not (list_any (bytes_eq (name x)) (map name xs))) (all_distinct (map name xs)) d in
+      let others = every_of_mapped (λ n. bytes_eq (name x) n ≡ false) name xs (every_fails (bytes_eq (name x)) (map name xs) (not-true (list_any (bytes_eq (name x)) (map name xs)) parts.0)) in
+      (rw (own_name (name x)) refl, every_with (λ y. find (called name (name y)) xs ≡ Some y) (λ y. bytes_eq (name x) (name y) ≡ false) (λ y. find (called name (name y)) (x ∷ xs) ≡ Some y) (λ y e other. rw other e) xs (every_finds xs parts.1) others)
+
+-- ---- a production
+
+module _ (g : RawGrammar) (sorts : List Sort) (named : Each (Names (named_sort g.sorts)) g.sorts sorts) (p : RawProd) (P : Production) (head : Head g.sorts p P.left P.kids P.extras) (prods : List Production) (made : Each (λ q Q. Head g.sorts q Q.left Q.kids Q.extras) g.prods prods) (attrs : Every AreDistinct g.sorts) where
+  abbrev all_places : List Place
+  all_places = places_of g.sorts p
+
+  abbrev occurrences : List Occurrence
+  occurrences = occurrences_of sorts P
+
+  abbrev pub raw_all : List RawEquation
+  raw_all = flat_map raw_equations p.items
+
+  abbrev targets : List Target
+  targets = flat_map target_of p.items
+
+  abbrev all_declared : List Declared
+  all_declared = declared_in p.items
+
+  abbrev pub is_once : Place → Bool
+  is_once x = not x.is_defined || nat_eq (tally (hits x) raw_all) 1
+
+  abbrev pub IsOnce : Place → Type 0
+  IsOnce x = is_once x ≡ true
+
+  target_number : (r : RawEquation) (q : Equation) → named_raw g sorts named p P head prods made r ≡ Some q → number (is_at r.target) all_places ≡ Some q.target
+  target_number r q e = sym (occurrence_at g.sorts sorts named p P head r.target) ∙ by (_) refl (named_expr (names g sorts named p P head prods made) r.expr) e
+    where
+      by : (o : Option ℕ) → o ≡ o → (z : Option Expr) → option_and_then (λ target. option_map (λ y. record { target = target; expr = y }) z) o ≡ Some q → o ≡ Some q.target
+      by None same z h = absurd (cc)
+      by (Some i) same None h = absurd (cc)
+      by (Some i) same (Some y) h = let one : record { target = i; expr = y } ≡ q = cc in ap (λ (q : Equation). Some q.target) one
+
+  -- the test of each occurrence is the test of its place
+  pub once_same : Each (Names (named_raw g sorts named p P head prods made)) raw_all P.equations → is_defined_once P occurrences ≡ list_all is_once all_places
+  once_same are =
+      subst (λ n. list_all test (range_with_len 0 n) ≡ list_all is_once all_places) (sym (each_length (Stands g.sorts) all_places occurrences stands)) (range_all test is_once 0 all_places at_each)
+    where
+      stands : Each (Stands g.sorts) all_places occurrences
+      stands = stand g.sorts sorts named p P head
+
+      test : ℕ → Bool
+      test i = option_map_or (λ (x : Occurrence). not x.is_defined || nat_eq (count_by (λ (e : Equation). e.target == i) P.equations) 1) (slice_get occurrences i) true
+
+      same : (j : ℕ) (x : Place) → slice_get all_places j ≡ Some x → count_by (λ (e : Equation). e.target == j) P.equations ≡ tally (hits x) raw_all
+      same j x e =
+          count-tally (λ (e : Equation). e.target == j) P.equations
+          ∙ each_tally (Names (named_raw g sorts named p P head prods made)) (hits x) (λ (e : Equation). e.target == j) (λ r q h. number_is r.target all_places j q.target x (places_apart g.sorts attrs p head.distinct) e (target_number r q h)) raw_all P.equations are
+
+      at_number : (j : ℕ) (x : Place) → slice_get all_places j ≡ Some x → test j ≡ is_once x
+      at_number j x e =
+          let found = each_at (Stands g.sorts) all_places occurrences j x stands e in
+          rw (found.1, (found.2).is_defined, same j x e) refl
+
+      at_each : (j : ℕ) (x : Place) → slice_get all_places j ≡ Some x → test (0 + j) ≡ is_once x
+      at_each j x e = let here : j ≡ 0 + j = omega arith in subst (λ i. test i ≡ is_once x) here (at_number j x e)
