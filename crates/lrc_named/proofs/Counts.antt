@@ -21,7 +21,7 @@ use Rattle.lrc_base.specs.declared.raw.RawProd.{RawProd}
 use Rattle.lrc_base.specs.declared.raw.RawGrammar.{RawGrammar}
 use Rattle.lrc_base.specs.declared.raw.RawExpr.{RawExpr}
 use Rattle.lrc_meaning.specs.Grammar.{Occurrence, occurrences_of, is_defined_once, all_distinct}
-use Rattle.lrc_meaning.specs.Naming.{named_sort, named_expr}
+use Rattle.lrc_meaning.specs.Naming.{named_sort, named_expr, occurrence_number}
 use Rattle.lrc_faults.specs.Faults.{Name, Fault, is_among, where_true, missing_equation, attrs_named, attrs_of_kind, attr_names, kid_names, Declared, local, attached, declared_by, declared_name, Means, nothing, left_attr, leaf, symbol, value, tree, means, left_or_other, kid_or_declared, kid_means, declared_means, Target, same_target, target_of, has_target, target_fault, missing_target, missing_of_left, missing_of_symbol, missing_of_kid, missing_of_declared, missing}
 use Rattle.lrc_named.proofs.Lists.{number, Every, every_from, every_parts, every_both, every_flat, every_of_flat, every_with, every_mapped, every_of_mapped, every_fails, none_passes, every_found, every_passes, all_pass, every_middle, any_mapped, Each, each_length, each_at, each_tally, range_all, Names, After, after_from, after_of_whole, empty_parts, empty_both, empty_each, each_empty, none_where, where_none, tally, count-tally, tally-append, tally_none, none_tally, tally_some, some_tally}
 use Rattle.lrc_named.proofs.Names.{same_name, own_name, names_swap, any_named, called, name_among}
@@ -30,7 +30,7 @@ use Rattle.lrc_named.proofs.Heads.{declared_in, declared_kind, is_attached, own_
 use Rattle.lrc_named.proofs.Patterns.{AtMostOne}
 use Rattle.lrc_named.proofs.Places.{Place, own_place, symbol_place, value_place, kid_places, declared_places, places_of, is_at, target_at}
 use Rattle.lrc_named.proofs.Meanings.{alone, of_symbol, alone_place, find_alone, lefts, rights}
-use Rattle.lrc_named.proofs.Occurrences.{Stands, stand, occurrence_at}
+use Rattle.lrc_named.proofs.Occurrences.{Stands, stand, all_called, occurrence_at}
 use Rattle.lrc_named.proofs.Distinct.{one_target, own_target, number_is, places_apart}
 use Rattle.lrc_named.proofs.Equations.{RawEquation, raw_equations, flat_map_both, names, named_raw, RightAt, DefinesLeft, means_declared}
 
@@ -146,12 +146,12 @@ module _ (g : RawGrammar) (sorts : List Sort) (named : Each (Names (named_sort g
   IsOnce x = is_once x ≡ true
 
   target_number : (r : RawEquation) (q : Equation) → named_raw g sorts named p P head prods made r ≡ Some q → number (is_at r.target) all_places ≡ Some q.target
-  target_number r q e = sym (occurrence_at g.sorts sorts named p P head r.target) ∙ by (_) refl (named_expr (names g sorts named p P head prods made) r.expr) e
+  target_number r q e = sym (occurrence_at g.sorts sorts named p P head r.target) ∙ by (named_expr (names g sorts named p P head prods made) r.expr) (occurrence_number (all_called g.sorts sorts named p P head) r.target.owner r.target.name) e
     where
-      by : (o : Option ℕ) → o ≡ o → (z : Option Expr) → option_and_then (λ target. option_map (λ y. record { target = target; expr = y }) z) o ≡ Some q → o ≡ Some q.target
-      by None same z h = absurd (cc)
-      by (Some i) same None h = absurd (cc)
-      by (Some i) same (Some y) h = let one : record { target = i; expr = y } ≡ q = cc in ap (λ (q : Equation). Some q.target) one
+      by : (z : Option Expr) (o : Option ℕ) → option_and_then (λ target. option_map (λ y. record { target = target; expr = y }) z) o ≡ Some q → o ≡ Some q.target
+      by z None h = absurd (cc)
+      by None (Some i) h = absurd (cc)
+      by (Some y) (Some i) h = let one : record { target = i; expr = y } ≡ q = cc in ap (λ (q : Equation). Some q.target) one
 
   -- the test of each occurrence is the test of its place
   pub once_same : Each (Names (named_raw g sorts named p P head prods made)) raw_all P.equations → is_defined_once P occurrences ≡ list_all is_once all_places
@@ -176,3 +176,99 @@ module _ (g : RawGrammar) (sorts : List Sort) (named : Each (Names (named_sort g
 
       at_each : (j : ℕ) (x : Place) → slice_get all_places j ≡ Some x → test (0 + j) ≡ is_once x
       at_each j x e = let here : j ≡ 0 + j = omega arith in subst (λ i. test i ≡ is_once x) here (at_number j x e)
+
+  -- ---- one equation for each place, and none missing
+
+  abbrev pub NotMissing : Place → Type 0
+  NotMissing x = missing_target p x.is_defined (target_at x) ≡ []
+
+  all_hits : (x : Place) → tally (hits x) raw_all ≡ tally (declared_hits x) all_declared + tally (target_hits x) targets
+  all_hits x = split_tally x p.items
+
+  once_means : (x : Place) → x.is_defined ≡ true → IsOnce x → tally (hits x) raw_all ≡ 1
+  once_means x d h = (Decides-eqb (tally (hits x) raw_all) 1).0 (by x.is_defined d h)
+    where
+      by : (b : Bool) → b ≡ true → (not b || nat_eq (tally (hits x) raw_all) 1) ≡ true → nat_eq (tally (hits x) raw_all) 1 ≡ true
+      by true d h = h
+      by false d h = absurd (cc)
+
+  means_once : (x : Place) → (x.is_defined ≡ true → tally (hits x) raw_all ≡ 1) → IsOnce x
+  means_once x f = by x.is_defined refl
+    where
+      by : (b : Bool) → x.is_defined ≡ b → (not b || nat_eq (tally (hits x) raw_all) 1) ≡ true
+      by true d = (Decides-eqb (tally (hits x) raw_all) 1).1 (f d)
+      by false d = refl
+
+  -- of a place that nothing declares
+  once_of_attr : (x : Place) → tally (declared_hits x) all_declared ≡ 0 → After IsNewTarget [] p.items → NotMissing x → IsOnce x
+  once_of_attr x none new h = means_once x one
+    where
+      has : (b : Bool) → b ≡ true → (b && not (has_target p.items (target_at x))) ≡ false → has_target p.items (target_at x) ≡ true
+      has true d e = not-false (has_target p.items (target_at x)) e
+      has false d e = absurd (cc)
+
+      one : x.is_defined ≡ true → tally (hits x) raw_all ≡ 1
+      one d =
+          let there = has x.is_defined d (none_where (x.is_defined && not (has_target p.items (target_at x))) (target_fault missing_equation p.name (target_at x)) h) in
+          let some = tally_some (target_hits x) targets there in
+          let most = (targets_once (target_at x) [] p.items new).1 in
+          let sum = all_hits x in
+          omega arith
+
+  attr_of_once : (x : Place) → tally (declared_hits x) all_declared ≡ 0 → IsOnce x → NotMissing x
+  attr_of_once x none h = where_none (x.is_defined && not (has_target p.items (target_at x))) (target_fault missing_equation p.name (target_at x)) (by x.is_defined refl)
+    where
+      by : (b : Bool) → x.is_defined ≡ b → (b && not (has_target p.items (target_at x))) ≡ false
+      by false d = refl
+      by true d =
+          let one = once_means x d h in
+          let sum = all_hits x in
+          let some : 1 ≤ tally (target_hits x) targets = omega arith in
+          not_from_true (has_target p.items (target_at x)) (some_tally (target_hits x) targets some)
+
+  -- ---- nothing declares an attribute
+
+  symbol_not_declared : (c : Name) (a : RawAttr) (ds : List Declared) → tally (declared_hits (symbol_place c a)) ds ≡ 0
+  symbol_not_declared c a [] = refl
+  symbol_not_declared c a (d ∷ ds) = let rest = symbol_not_declared c a ds in omega arith
+
+  NotDeclared : RawAttr → Type 0
+  NotDeclared a = tally (declared_hits (own_place a)) all_declared ≡ 0
+
+  own_not_declared : Every (λ (a : RawAttr). tally (declared_hits (own_place a)) all_declared ≡ 0) (attrs_named g.sorts p.left)
+  own_not_declared =
+      every_from (λ (a : RawAttr). tally (declared_hits (own_place a)) all_declared ≡ 0) (λ (a : RawAttr). is_among (attr_names g.sorts p.left) a.name ≡ true) by (attrs_named g.sorts p.left) (every_among (λ (a : RawAttr). a.name) (attrs_named g.sorts p.left))
+    where
+      by : (a : RawAttr) → is_among (attr_names g.sorts p.left) a.name ≡ true → tally (declared_hits (own_place a)) all_declared ≡ 0
+      by a e =
+          let others = (lefts g.sorts p head.distinct).apart a.name e in
+          let parts = or_parts (is_among (kid_names p.kids) a.name) (is_among (map declared_name all_declared) a.name) (sym (list_any-append (bytes_eq a.name) (kid_names p.kids) (map declared_name all_declared)) ∙ others) in
+          tally_none (declared_hits (own_place a)) all_declared (sym (any_mapped (bytes_eq a.name) declared_name all_declared) ∙ parts.1)
+
+  -- ---- what is declared has its own equation alone
+
+  no_target : (n : Name) (d : Declared) → means g.sorts p n ≡ declared_means (Some d) → (items : List RawItem) → Every (DefinesLeft g sorts named p P head prods made) items → tally (target_hits (value_place n (declared_kind d))) (flat_map target_of items) ≡ 0
+  no_target n d is [] h = refl
+  no_target n d is (item.Local m kind x ∷ items) h = no_target n d is items h.1
+  no_target n d is (item.Attach m sort x ∷ items) h = no_target n d is items h.1
+  no_target n d is (item.Own m x ∷ items) h =
+      let rest = no_target n d is items h.1 in
+      let other : bytes_eq n m ≡ false = false_from_ne_true (bytes_eq n m) (λ e. not_left d (h.0).0 (sym is ∙ (ap (means g.sorts p) (same_name n m e) ∙ (h.0).1))) in
+      rw other (omega arith)
+    where
+      not_left : (d : Declared) (a : RawAttr) → declared_means (Some d) ≡ left_attr a → ⊥
+      not_left (local m kind) a e = cc
+      not_left (attached m sort) a e = cc
+  no_target n d is (item.OfKid c m x ∷ items) h = let rest = no_target n d is items h.1 in omega arith
+  no_target n d is (item.Pattern pieces ∷ items) h = no_target n d is items h.1
+
+  value_once : Every (DefinesLeft g sorts named p P head prods made) p.items → Every (λ (d : Declared). IsOnce (value_place (declared_name d) (declared_kind d))) all_declared
+  value_once left =
+      every_with (λ (d : Declared). is_among (map declared_name all_declared) (declared_name d) ≡ true) (λ (d : Declared). find (called declared_name (declared_name d)) all_declared ≡ Some d) (λ (d : Declared). IsOnce (value_place (declared_name d) (declared_kind d))) (λ d e f. means_once (value_place (declared_name d) (declared_kind d)) (λ u. one d e f)) all_declared (every_among declared_name all_declared) (every_finds declared_name all_declared (rights g.sorts p head.distinct).back)
+    where
+      one : (d : Declared) → is_among (map declared_name all_declared) (declared_name d) ≡ true → find (called declared_name (declared_name d)) all_declared ≡ Some d → tally (hits (value_place (declared_name d) (declared_kind d))) raw_all ≡ 1
+      one d e f =
+          let sum = all_hits (value_place (declared_name d) (declared_kind d)) in
+          let own : tally (declared_hits (value_place (declared_name d) (declared_kind d))) all_declared ≡ 1 = distinct_tally declared_name (declared_name d) all_declared (rights g.sorts p head.distinct).back e in
+          let none = no_target (declared_name d) d (means_declared g sorts named p P head prods made (declared_name d) d f) p.items left in
+          omega arith
