@@ -12,6 +12,7 @@ use Rattle.lrc_base.specs.declared.grammar.Equation.{Equation}
 use Rattle.lrc_base.specs.declared.grammar.Production.{Production}
 use Rattle.lrc_base.specs.declared.expr.Expr.{Expr}
 use Rattle.lrc_base.specs.declared.raw.RawKind.{RawKind}
+use Rattle.lrc_base.specs.declared.raw.RawKind.TheVariants as rk
 use Rattle.lrc_base.specs.declared.raw.RawAttr.{RawAttr}
 use Rattle.lrc_base.specs.declared.raw.RawSort.{RawSort}
 use Rattle.lrc_base.specs.declared.raw.RawKid.{RawKid}
@@ -232,9 +233,6 @@ module _ (g : RawGrammar) (sorts : List Sort) (named : Each (Names (named_sort g
   symbol_not_declared c a [] = refl
   symbol_not_declared c a (d ∷ ds) = let rest = symbol_not_declared c a ds in omega arith
 
-  NotDeclared : RawAttr → Type 0
-  NotDeclared a = tally (declared_hits (own_place a)) all_declared ≡ 0
-
   own_not_declared : Every (λ (a : RawAttr). tally (declared_hits (own_place a)) all_declared ≡ 0) (attrs_named g.sorts p.left)
   own_not_declared =
       every_from (λ (a : RawAttr). tally (declared_hits (own_place a)) all_declared ≡ 0) (λ (a : RawAttr). is_among (attr_names g.sorts p.left) a.name ≡ true) by (attrs_named g.sorts p.left) (every_among (λ (a : RawAttr). a.name) (attrs_named g.sorts p.left))
@@ -272,3 +270,113 @@ module _ (g : RawGrammar) (sorts : List Sort) (named : Each (Names (named_sort g
           let own : tally (declared_hits (value_place (declared_name d) (declared_kind d))) all_declared ≡ 1 = distinct_tally declared_name (declared_name d) all_declared (rights g.sorts p head.distinct).back e in
           let none = no_target (declared_name d) d (means_declared g sorts named p P head prods made (declared_name d) d f) p.items left in
           omega arith
+
+  -- ---- all places
+
+  symbols_once : (c : Name) (as' : List RawAttr) → After IsNewTarget [] p.items → flat_map (missing_of_symbol p c) as' ≡ [] → Every IsOnce (map (symbol_place c) as')
+  symbols_once c as' new e =
+      every_mapped IsOnce (symbol_place c) as' (every_from (λ a. IsOnce (symbol_place c a)) (λ a. missing_of_symbol p c a ≡ []) (λ a h. once_of_attr (symbol_place c a) (symbol_not_declared c a all_declared) new h) as' (empty_each (missing_of_symbol p c) as' e))
+
+  once_symbols : (c : Name) (as' : List RawAttr) → Every IsOnce (map (symbol_place c) as') → flat_map (missing_of_symbol p c) as' ≡ []
+  once_symbols c as' h =
+      each_empty (missing_of_symbol p c) as' (every_from (λ a. missing_of_symbol p c a ≡ []) (λ a. IsOnce (symbol_place c a)) (λ a k. attr_of_once (symbol_place c a) (symbol_not_declared c a all_declared) k) as' (every_of_mapped IsOnce (symbol_place c) as' h))
+
+  kid_once : After IsNewTarget [] p.items → (kid : RawKid) → missing_of_kid g.sorts p kid ≡ [] → Every IsOnce (kid_places g.sorts kid)
+  kid_once new kid e = symbols_once kid.name (attrs_of_kind g.sorts kid.kind) new e
+
+  declared_once : After IsNewTarget [] p.items → (d : Declared) → IsOnce (value_place (declared_name d) (declared_kind d)) → missing_of_declared g.sorts p d ≡ [] → Every IsOnce (declared_places g.sorts d)
+  declared_once new (local n kind) h e = (h, tt)
+  declared_once new (attached n sort) h e = (h, symbols_once n (attrs_named g.sorts sort) new e)
+
+  once_declared : (d : Declared) → Every IsOnce (declared_places g.sorts d) → missing_of_declared g.sorts p d ≡ []
+  once_declared (local n kind) h = refl
+  once_declared (attached n sort) h = once_symbols n (attrs_named g.sorts sort) h.1
+
+  abbrev missing_left : List Fault
+  missing_left = flat_map (missing_of_left p) (attrs_named g.sorts p.left)
+
+  abbrev missing_kids : List Fault
+  missing_kids = flat_map (missing_of_kid g.sorts p) p.kids
+
+  abbrev missing_declared : List Fault
+  missing_declared = flat_map (missing_of_declared g.sorts p) all_declared
+
+  pub all_once : After IsNewTarget [] p.items → Every (DefinesLeft g sorts named p P head prods made) p.items → missing g.sorts p ≡ [] → Every IsOnce all_places
+  all_once new left e =
+      let parts = empty_parts missing_left (missing_kids ++ missing_declared) e in
+      let others = empty_parts missing_kids missing_declared parts.1 in
+      let own = every_with (λ (a : RawAttr). tally (declared_hits (own_place a)) all_declared ≡ 0) (λ a. missing_of_left p a ≡ []) (λ a. IsOnce (own_place a)) (λ a none h. once_of_attr (own_place a) none new h) (attrs_named g.sorts p.left) own_not_declared (empty_each (missing_of_left p) (attrs_named g.sorts p.left) parts.0) in
+      let kids = every_from (λ kid. Every IsOnce (kid_places g.sorts kid)) (λ kid. missing_of_kid g.sorts p kid ≡ []) (kid_once new) p.kids (empty_each (missing_of_kid g.sorts p) p.kids others.0) in
+      let declared = every_with (λ (d : Declared). IsOnce (value_place (declared_name d) (declared_kind d))) (λ d. missing_of_declared g.sorts p d ≡ []) (λ d. Every IsOnce (declared_places g.sorts d)) (declared_once new) all_declared (value_once left) (empty_each (missing_of_declared g.sorts p) all_declared others.1) in
+      every_both IsOnce (map own_place (attrs_named g.sorts p.left)) (flat_map (kid_places g.sorts) p.kids ++ flat_map (declared_places g.sorts) all_declared) (every_mapped IsOnce own_place (attrs_named g.sorts p.left) own) (every_both IsOnce (flat_map (kid_places g.sorts) p.kids) (flat_map (declared_places g.sorts) all_declared) (every_flat IsOnce (kid_places g.sorts) p.kids kids) (every_flat IsOnce (declared_places g.sorts) all_declared declared))
+
+  pub none_missing : Every IsOnce all_places → missing g.sorts p ≡ []
+  none_missing h =
+      let parts = every_parts IsOnce (map own_place (attrs_named g.sorts p.left)) (flat_map (kid_places g.sorts) p.kids ++ flat_map (declared_places g.sorts) all_declared) h in
+      let others = every_parts IsOnce (flat_map (kid_places g.sorts) p.kids) (flat_map (declared_places g.sorts) all_declared) parts.1 in
+      let own = every_with (λ (a : RawAttr). tally (declared_hits (own_place a)) all_declared ≡ 0) (λ (a : RawAttr). IsOnce (own_place a)) (λ a. missing_of_left p a ≡ []) (λ a none k. attr_of_once (own_place a) none k) (attrs_named g.sorts p.left) own_not_declared (every_of_mapped IsOnce own_place (attrs_named g.sorts p.left) parts.0) in
+      let kids = every_from (λ kid. missing_of_kid g.sorts p kid ≡ []) (λ kid. Every IsOnce (kid_places g.sorts kid)) (λ kid k. once_symbols kid.name (attrs_of_kind g.sorts kid.kind) k) p.kids (every_of_flat IsOnce (kid_places g.sorts) p.kids others.0) in
+      let declared = every_from (λ d. missing_of_declared g.sorts p d ≡ []) (λ d. Every IsOnce (declared_places g.sorts d)) once_declared all_declared (every_of_flat IsOnce (declared_places g.sorts) all_declared others.1) in
+      empty_both missing_left (missing_kids ++ missing_declared) (each_empty (missing_of_left p) (attrs_named g.sorts p.left) own) (empty_both missing_kids missing_declared (each_empty (missing_of_kid g.sorts p) p.kids kids) (each_empty (missing_of_declared g.sorts p) all_declared declared))
+
+  -- ---- where each place has one equation, each target is new, and of the left side only attributes are defined
+
+  abbrev RightEquation : RawEquation → Type 0
+  RightEquation r = RightAt g sorts named p P head prods made r
+
+  -- the one equation of a place is that of this item, so nothing else declares or targets it
+  alone_at : (z : Place) (t : Target) (b : List RawItem) (i : RawItem) (rest : List RawItem) → b ++ i ∷ rest ≡ p.items → target_of i ≡ t ∷ [] → is_at t z ≡ true → tally (hits z) raw_all ≡ 1 → (has_target b t ≡ false) × (tally (declared_hits z) all_declared ≡ 0)
+  alone_at z t b i rest w e at one =
+      let split : targets ≡ flat_map target_of b ++ t ∷ flat_map target_of rest = ap (flat_map target_of) (sym w) ∙ (flat_map_both target_of b (i ∷ rest) ∙ ap (λ l. flat_map target_of b ++ (l ++ flat_map target_of rest)) e) in
+      let parts : tally (target_hits z) targets ≡ tally (target_hits z) (flat_map target_of b) + (cond (is_at t z) 1 0 + tally (target_hits z) (flat_map target_of rest)) = ap (tally (target_hits z)) split ∙ tally-append (target_hits z) (flat_map target_of b) (t ∷ flat_map target_of rest) in
+      let here : ◌≡◌ {A = ℕ} (cond (is_at t z) 1 0) 1 = ap (λ c. cond c 1 0) at in
+      let sum = all_hits z in
+      let none : tally (target_hits z) (flat_map target_of b) ≡ 0 = omega arith in
+      let same : target_at z ≡ t = one_target (target_at z) t at in
+      (subst (λ s. list_any (same_target s) (flat_map target_of b) ≡ false) same (none_tally (target_hits z) (flat_map target_of b) none), omega arith)
+
+  once_at : (t : Target) (x : RawExpr) → RightEquation (record { target = t; expr = x }) → Every IsOnce all_places → (z : Place) × (find (is_at t) all_places ≡ Some z) × (is_at t z ≡ true) × (tally (hits z) raw_all ≡ 1)
+  once_at t x h once =
+      let found = every_found (is_at t) IsOnce all_places h.place once h.found in
+      (h.place, h.found, found.1, once_means h.place h.defined found.0)
+
+  defines_left : (n : Name) (z : Place) → find (is_at (alone n)) all_places ≡ Some z → is_at (alone n) z ≡ true → tally (declared_hits z) all_declared ≡ 0 → (a : RawAttr) × (means g.sorts p n ≡ left_attr a)
+  defines_left n z f at none =
+      by (find (called (λ (a : RawAttr). a.name) n) (attrs_named g.sorts p.left)) (find (called (λ (k : RawKid). k.name) n) p.kids) (find (called declared_name n) all_declared) refl (sym (find_alone g.sorts p head.distinct n) ∙ f)
+    where
+      no_kid : (k : RawKid) (kind : RawKind) → alone_place n (kid_means k kind) ≡ Some z → ⊥
+      no_kid k rk.Int e = cc
+      no_kid k rk.Bool e = cc
+      no_kid k rk.Name e = cc
+      no_kid k (rk.Named m) e = cc
+
+      declared : (d : Declared) → find (called declared_name n) all_declared ≡ Some d → ⊥
+      declared d e =
+          let named' = name_among declared_name n all_declared d e in
+          let same : target_at z ≡ alone n = one_target (target_at z) (alone n) at in
+          let some : list_any (λ (d : Declared). same_target (alone n) (alone (declared_name d))) all_declared ≡ true = sym (any_mapped (bytes_eq n) declared_name all_declared) ∙ named'.0 in
+          let some' : list_any (declared_hits z) all_declared ≡ true = subst (λ t. list_any (λ (d : Declared). same_target t (alone (declared_name d))) all_declared ≡ true) (sym same) some in
+          let le = tally_some (declared_hits z) all_declared some' in
+          omega arith
+
+      by : (a : Option RawAttr) (k : Option RawKid) (d : Option Declared) → find (called declared_name n) all_declared ≡ d → alone_place n (left_or_other a (kid_or_declared k d)) ≡ Some z → (c : RawAttr) × (left_or_other a (kid_or_declared k d) ≡ left_attr c)
+      by (Some a) k d e h = (a, refl)
+      by None (Some k) d e h = absurd (no_kid k k.kind h)
+      by None None (Some d) e h = absurd (declared d e)
+      by None None None e h = absurd (cc)
+
+  pub once_item : Every IsOnce all_places → Every RightEquation raw_all → (b : List RawItem) (i : RawItem) (rest : List RawItem) → b ++ i ∷ rest ≡ p.items → IsNewTarget b i × DefinesLeft g sorts named p P head prods made i
+  once_item once right b i rest w = by i w (every_parts RightEquation (raw_equations i) (flat_map raw_equations rest) ((every_parts RightEquation (flat_map raw_equations b) (flat_map raw_equations (i ∷ rest)) (subst (λ l. Every RightEquation l) (ap (flat_map raw_equations) (sym w) ∙ flat_map_both raw_equations b (i ∷ rest)) right)).1)).0
+    where
+      by : (i : RawItem) → b ++ i ∷ rest ≡ p.items → Every RightEquation (raw_equations i) → IsNewTarget b i × DefinesLeft g sorts named p P head prods made i
+      by (item.Local n kind x) w h = (tt, tt)
+      by (item.Attach n sort x) w h = (tt, tt)
+      by (item.Own n x) w h =
+          let found = once_at (alone n) x h.0 once in
+          let only = alone_at found.0 (alone n) b (item.Own n x) rest w refl found.2 found.3 in
+          ((only.0, tt), defines_left n found.0 found.1 found.2 only.1)
+      by (item.OfKid c a x) w h =
+          let found = once_at (of_symbol c a) x h.0 once in
+          let only = alone_at found.0 (of_symbol c a) b (item.OfKid c a x) rest w refl found.2 found.3 in
+          ((only.0, tt), tt)
+      by (item.Pattern pieces) w h = (tt, tt)
