@@ -10,3 +10,4 @@ pub mod Expressions
 pub mod Equations
 pub mod Distinct
 pub mod Counts
+pub mod Productions
