@@ -21,12 +21,12 @@ use Rattle.lrc_base.specs.declared.raw.RawProd.{RawProd}
 use Rattle.lrc_base.specs.declared.raw.RawGrammar.{RawGrammar}
 use Rattle.lrc_meaning.specs.Tree.{is_sort}
 use Rattle.lrc_meaning.specs.Grammar.{attrs_of_sort, occurrences_of, all_distinct, is_known, names_of, is_equation_right, is_defined_once, is_piece_right, is_production_right}
-use Rattle.lrc_meaning.specs.Naming.{Known, each_some, sort_number, named_sort, named_kid, named_extras, called_occurrences, named_equations, named_pattern, named_with, named_production}
-use Rattle.lrc_faults.specs.Faults.{Name, attrs_named, attr_names, kid_names, Declared, local, attached, declared_name, body_faults, item_faults, missing, each_after}
-use Rattle.lrc_named.proofs.Lists.{Every, every_from, every_flat, every_of_flat, every_has, every_passes, all_pass, Each, each_map, each_gives_right, each_right, each_left, each_named, named_each, Names, After, none_after, after_none, after_from, after_of_whole, every_of_after, empty_parts, empty_both}
+use Rattle.lrc_meaning.specs.Naming.{Known, each_some, sort_number, named_sort, named_kid, named_extras, called_occurrences, named_equations, pattern_of, named_pattern, named_with, named_production}
+use Rattle.lrc_faults.specs.Faults.{Name, attrs_named, attr_names, kid_names, Declared, local, attached, declared_name, body_faults, item_faults, piece_faults, missing, each_after}
+use Rattle.lrc_named.proofs.Lists.{Every, every_from, every_middle, every_flat, every_of_flat, every_has, every_passes, all_pass, Each, each_map, each_gives_right, each_right, each_left, each_named, named_each, Names, After, none_after, after_none, after_from, after_of_whole, every_of_after, empty_parts, empty_both}
 use Rattle.lrc_named.proofs.Sorts.{SortsRight, IsAttr, attrs_at, kind_is_known, is_given, is_that_sort}
 use Rattle.lrc_named.proofs.Heads.{declared_in, declared_kind, is_attached, own_names, IsKid, IsExtra, are_kids, are_extras, Head}
-use Rattle.lrc_named.proofs.Patterns.{IsFirstPattern, pattern_right, pattern_was_right}
+use Rattle.lrc_named.proofs.Patterns.{IsFirstPattern, PatternOf, pattern_right, pattern_was_right}
 use Rattle.lrc_named.proofs.Places.{places_of}
 use Rattle.lrc_named.proofs.Equations.{RawEquation, raw_equations, named_raw, equations_named, RightAt, right_named, named_right, ItemRight, item_right, item_faultless, DefinesLeft}
 use Rattle.lrc_named.proofs.Counts.{IsNewTarget, IsOnce, is_once, once_same, all_once, none_missing, once_item}
@@ -110,3 +110,78 @@ module _ (g : RawGrammar) (sorts : List Sort) where
     items_right : each_after (item_faults g p) [] p.items ≡ [] → After Right [] p.items
     items_right e =
         after_from p.items (λ b i. item_faults g p b i ≡ []) Right (item_right g sorts r.named p P head prods made) [] p.items refl (none_after (item_faults g p) [] p.items e)
+
+    all_right : After Right [] p.items → Every RightEquation raw_all
+    all_right h =
+        every_flat RightEquation raw_equations p.items (every_of_after (λ i. Every RightEquation (raw_equations i)) [] p.items (after_from p.items Right (λ b i. Every RightEquation (raw_equations i)) (λ b i rest w k. k.each) [] p.items refl h))
+
+    numbered : (qs : List Equation) → named_equations (known_to P) p.items ≡ Some qs → Each IsNumbered raw_all qs
+    numbered qs e =
+        each_named (named_raw g sorts r.named p P head prods made) raw_all qs (ap each_some (sym (equations_named g sorts r.named p P head prods made p.items)) ∙ e)
+
+    -- a body without faults has equations and a pattern by number
+    pub body_named : (patterns : After IsFirstPattern [] p.items) → body_faults g p ≡ [] → ((qs : List Equation) × (named_equations (known_to P) p.items ≡ Some qs)) × ((o : Option (List Piece)) × (named_pattern P.kids p.items ≡ Some o))
+    body_named patterns e =
+        let parts = empty_parts (each_after (item_faults g p) [] p.items) (missing g.sorts p) e in
+        let items = items_right parts.0 in
+        let qs = every_has IsNumbered raw_all (every_from (λ r'. (q : Equation) × IsNumbered r' q) RightEquation (λ r' h. let found = right_named g sorts r.named p P head prods made r' h in (found.0, found.1)) raw_all (all_right items)) in
+        let pattern = pattern_right g.sorts p P.kids (are_kids g.sorts p.kids P.kids head.of_kids) p.items patterns (pieces_right items) in
+        ((qs.0, ap each_some (equations_named g sorts r.named p P head prods made p.items) ∙ named_each (named_raw g sorts r.named p P head prods made) raw_all qs.0 qs.1), (pattern.0, pattern.1))
+      where
+        pieces_right : After Right [] p.items → Every (λ pieces. flat_map (piece_faults p) pieces ≡ []) (flat_map pattern_of p.items)
+        pieces_right h =
+            every_flat (λ pieces. flat_map (piece_faults p) pieces ≡ []) pattern_of p.items (every_of_after (λ i. Every (λ pieces. flat_map (piece_faults p) pieces ≡ []) (pattern_of i)) [] p.items (after_from p.items Right (λ b i. Every (λ pieces. flat_map (piece_faults p) pieces ≡ []) (pattern_of i)) (λ b i rest w k. k.pieces) [] p.items refl h))
+
+    -- each equation is right, each place has one, and the pattern is right
+    pub record BodyRight : Type 0 where
+      pub equations : list_all (is_equation_right sorts prods P) P.equations ≡ true
+      pub once : is_defined_once P (occurrences_of sorts P) ≡ true
+      pub pattern : option_map_or (list_all (is_piece_right P)) P.pattern true ≡ true
+
+    pub body_right : named_equations (known_to P) p.items ≡ Some P.equations → named_pattern P.kids p.items ≡ Some P.pattern → After IsFirstPattern [] p.items → body_faults g p ≡ [] → BodyRight
+    body_right eq ep patterns e =
+        let parts = empty_parts (each_after (item_faults g p) [] p.items) (missing g.sorts p) e in
+        let items = items_right parts.0 in
+        let right = all_right items in
+        let new = after_from p.items Right IsNewTarget (λ b i rest w k. k.new) [] p.items refl items in
+        let left = every_of_after (DefinesLeft g sorts r.named p P head prods made) [] p.items (after_from p.items Right (λ b i. DefinesLeft g sorts r.named p P head prods made i) (λ b i rest w k. k.defines_left) [] p.items refl items) in
+        let once = all_once g sorts r.named p P head prods made r.attrs new left parts.1 in
+        record {
+          equations = all_pass (is_equation_right sorts prods P) P.equations (each_right IsNumbered RightEquation (λ q. is_equation_right sorts prods P q ≡ true) same_equation raw_all P.equations (numbered P.equations eq) right);
+          once = once_same g sorts r.named p P head prods made r.attrs (numbered P.equations eq) ∙ all_pass (is_once g sorts r.named p P head prods made r.attrs) (places_of g.sorts p) once;
+          pattern = pattern_of_it P.pattern ep (pattern_right g.sorts p P.kids (are_kids g.sorts p.kids P.kids head.of_kids) p.items patterns (pieces_right items));
+        }
+      where
+        pieces_right : After Right [] p.items → Every (λ pieces. flat_map (piece_faults p) pieces ≡ []) (flat_map pattern_of p.items)
+        pieces_right h =
+            every_flat (λ pieces. flat_map (piece_faults p) pieces ≡ []) pattern_of p.items (every_of_after (λ i. Every (λ pieces. flat_map (piece_faults p) pieces ≡ []) (pattern_of i)) [] p.items (after_from p.items Right (λ b i. Every (λ pieces. flat_map (piece_faults p) pieces ≡ []) (pattern_of i)) (λ b i rest w k. k.pieces) [] p.items refl h))
+
+        same_equation : (r' : RawEquation) (q : Equation) → IsNumbered r' q → RightEquation r' → is_equation_right sorts prods P q ≡ true
+        same_equation r' q n h =
+            let found = right_named g sorts r.named p P head prods made r' h in
+            let same : found.0 ≡ q = (let both : Some found.0 ≡ Some q = sym found.1 ∙ n in cc) in
+            subst (λ q. is_equation_right sorts prods P q ≡ true) same found.2
+
+        pattern_of_it : (o : Option (List Piece)) → named_pattern P.kids p.items ≡ Some o → PatternOf g.sorts p P.kids (are_kids g.sorts p.kids P.kids head.of_kids) p.items → option_map_or (list_all (is_piece_right P)) o true ≡ true
+        pattern_of_it o e found =
+            let same : found.0 ≡ o = (let both : Some found.0 ≡ Some o = sym found.1 ∙ e in cc) in
+            subst (λ o. option_map_or (list_all (is_piece_right P)) o true ≡ true) same (found.2 P refl)
+
+    -- and back
+    pub body_faultless : named_equations (known_to P) p.items ≡ Some P.equations → named_pattern P.kids p.items ≡ Some P.pattern → BodyRight → body_faults g p ≡ []
+    body_faultless eq ep h =
+        let right = each_left IsNumbered RightEquation (λ q. is_equation_right sorts prods P q ≡ true) (named_right g sorts r.named p P head prods made) raw_all P.equations (numbered P.equations eq) (every_passes (is_equation_right sorts prods P) P.equations h.equations) in
+        let once = every_passes (is_once g sorts r.named p P head prods made r.attrs) (places_of g.sorts p) (sym (once_same g sorts r.named p P head prods made r.attrs (numbered P.equations eq)) ∙ h.once) in
+        let pieces = (pattern_was_right g.sorts p P.kids (are_kids g.sorts p.kids P.kids head.of_kids) p.items P.pattern ep).1 in
+        let items = after_of_whole (λ b i. item_faults g p b i ≡ []) [] p.items p.items refl (λ b i rest w. item_faultless g sorts r.named p P head prods made b i rest w (one_item right once pieces b i rest w)) in
+        empty_both (each_after (item_faults g p) [] p.items) (missing g.sorts p) (after_none (item_faults g p) [] p.items items) (none_missing g sorts r.named p P head prods made r.attrs once)
+      where
+        one_item : Every RightEquation raw_all → Every (IsOnce g sorts r.named p P head prods made r.attrs) (places_of g.sorts p) → Every (λ pieces. flat_map (piece_faults p) pieces ≡ []) (flat_map pattern_of p.items) → (b : List RawItem) (i : RawItem) (rest : List RawItem) → b ++ i ∷ rest ≡ p.items → Right b i
+        one_item right once pieces b i rest w =
+            let both = once_item g sorts r.named p P head prods made r.attrs once right b i rest w in
+            record {
+              each = every_middle (λ i. Every RightEquation (raw_equations i)) b i rest (subst (Every (λ i. Every RightEquation (raw_equations i))) (sym w) (every_of_flat RightEquation raw_equations p.items right));
+              new = both.0;
+              defines_left = both.1;
+              pieces = every_middle (λ i. Every (λ pieces. flat_map (piece_faults p) pieces ≡ []) (pattern_of i)) b i rest (subst (Every (λ i. Every (λ pieces. flat_map (piece_faults p) pieces ≡ []) (pattern_of i))) (sym w) (every_of_flat (λ pieces. flat_map (piece_faults p) pieces ≡ []) pattern_of p.items pieces));
+            }
