@@ -11,3 +11,4 @@ pub mod Equations
 pub mod Distinct
 pub mod Counts
 pub mod Productions
+pub mod Grammars

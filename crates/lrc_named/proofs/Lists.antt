@@ -407,3 +407,16 @@ module _ {A : Type 0} where
 
   pub every_middle : (P : A → Type 0) (before : List A) (x : A) (rest : List A) → Every P (before ++ x ∷ rest) → P x
   every_middle P before x rest h = (every_parts P before (x ∷ rest) h).1.0
+
+pub each_with : {A B : Type 0} (R : A → B → Type 0) (P : A → Type 0) (S : A → B → Type 0) → ((x : A) (y : B) → R x y → P x → S x y) → (xs : List A) (ys : List B) → Each R xs ys → Every P xs → Each S xs ys
+each_with R P S f [] [] h k = tt
+each_with R P S f [] (y ∷ ys) h k = absurd h
+each_with R P S f (x ∷ xs) [] h k = absurd h
+each_with R P S f (x ∷ xs) (y ∷ ys) h k = (f x y h.0 k.0, each_with R P S f xs ys h.1 k.1)
+
+-- the facts of both items beside one another
+pub each_with_right : {A B : Type 0} (R : A → B → Type 0) (P : B → Type 0) (S : A → B → Type 0) → ((x : A) (y : B) → R x y → P y → S x y) → (xs : List A) (ys : List B) → Each R xs ys → Every P ys → Each S xs ys
+each_with_right R P S f [] [] h k = tt
+each_with_right R P S f [] (y ∷ ys) h k = absurd h
+each_with_right R P S f (x ∷ xs) [] h k = absurd h
+each_with_right R P S f (x ∷ xs) (y ∷ ys) h k = (f x y h.0 k.0, each_with_right R P S f xs ys h.1 k.1)
