@@ -113,3 +113,117 @@ module _ (raw : RawGrammar) where
         let at = attrs_at raw.sorts sorts r.named raw.start i e in
         let none = each_left (IsAttr raw.sorts) (λ (a : RawAttr). a.inherited ≡ false) (λ (b : Attr). not b.inherited ≡ true) (λ a b h e. sym h.inherited ∙ not-true b.inherited e) start_attrs (attrs_of_sort sorts i) at.0 (every_passes (λ (a : Attr). not a.inherited) (attrs_of_sort sorts i) parts.1) in
         empty_both (where_true (is_none (sort_number raw.sorts raw.start)) (fault unknown (codes "start") raw.start)) (first_inherited (codes "start") start_attrs) (sort_numbered raw.sorts raw.start (fault unknown (codes "start") raw.start) i e) (inherited_none (codes "start") start_attrs none)
+
+    -- ---- productions
+
+    abbrev IsHead : RawProd → Production → Type 0
+    IsHead p P = Head raw.sorts p P.left P.kids P.extras
+
+    abbrev HeadFree : RawProd → Type 0
+    HeadFree p = ((i : ℕ) × (sort_number raw.sorts p.left ≡ Some i)) × (each_after (kid_faults raw.sorts p) [] p.kids ≡ [])
+
+    abbrev head_twice : List RawProd → RawProd → List Fault
+    head_twice before p = where_true (is_among (map (λ (q : RawProd). q.name) before) p.name) (fault twice p.name p.name)
+
+    abbrev left_unknown : RawProd → List Fault
+    left_unknown p = where_true (is_none (sort_number raw.sorts p.left)) (fault unknown p.name p.left)
+
+    abbrev kid_list : RawProd → List Fault
+    kid_list p = each_after (kid_faults raw.sorts p) [] p.kids
+
+    head_free : (before : List RawProd) (p : RawProd) → head_faults raw.sorts before p ≡ [] → (is_among (map (λ (q : RawProd). q.name) before) p.name ≡ false) × HeadFree p
+    head_free before p e =
+        let one = empty_parts (head_twice before p) (left_unknown p ++ kid_list p) e in
+        let two = empty_parts (left_unknown p) (kid_list p) one.1 in
+        (none_where (is_among (map (λ (q : RawProd). q.name) before) p.name) (fault twice p.name p.name) one.0, (numbered_sort raw.sorts p.left (fault unknown p.name p.left) two.0, two.1))
+
+    free_head : (before : List RawProd) (p : RawProd) → is_among (map (λ (q : RawProd). q.name) before) p.name ≡ false → HeadFree p → head_faults raw.sorts before p ≡ []
+    free_head before p new h =
+        empty_both (head_twice before p) (left_unknown p ++ kid_list p) (where_none (is_among (map (λ (q : RawProd). q.name) before) p.name) (fault twice p.name p.name) new) (empty_both (left_unknown p) (kid_list p) (sort_numbered raw.sorts p.left (fault unknown p.name p.left) h.0.0 h.0.1) h.1)
+
+    abbrev DeclaresAll : RawProd → Type 0
+    DeclaresAll p = After (Declares raw.sorts p) [] p.items
+
+    abbrev HasHead : RawProd → Type 0
+    HasHead p = (P : Production) × IsHead p P
+
+    has_head : (p : RawProd) → HeadFree p → DeclaresAll p → HasHead p
+    has_head p h d =
+        let found = head_right raw.sorts p r.attrs h.0.0 h.0.1 h.1 d in
+        (record { name = p.name; left = found.0; kids = found.1; extras = found.2; equations = []; pattern = None }, found.3)
+
+    first_patterns : (p : RawProd) → DeclaresAll p → After IsFirstPattern [] p.items
+    first_patterns p d = after_from p.items (Declares raw.sorts p) IsFirstPattern (λ b i rest w k. k.first_pattern) [] p.items refl d
+
+    -- what is known of a production without faults
+    record Free (p : RawProd) : Type 0 where
+      declares_all : DeclaresAll p
+      body : body_faults raw p ≡ []
+      head : HasHead p
+
+    abbrev HasNumber : RawProd → Type 0
+    HasNumber p = (P : Production) × (named_production raw sorts p ≡ Some P)
+
+    module _ (prods : List Production) (made : Each IsHead raw.prods prods) where
+      has_number : (p : RawProd) → Free p → HasNumber p
+      has_number p f =
+          let P = (f.head).0 in
+          let head = (f.head).1 in
+          let found = body_named raw sorts r p P head prods made (first_patterns p f.declares_all) f.body in
+          let whole : Production = record { name = p.name; left = P.left; kids = P.kids; extras = P.extras; equations = found.0.0; pattern = found.1.0 } in
+          (whole, named_whole raw sorts p whole (record { of_name = refl; of_left = head.of_left; of_kids = head.of_kids; of_extras = head.of_extras; of_equations = found.0.1; of_pattern = found.1.1 }))
+
+      production_right : (p : RawProd) (P : Production) → named_production raw sorts p ≡ Some P → Free p → is_production_right sorts prods P ≡ true
+      production_right p P e f =
+          let n = named_parts raw sorts p P e in
+          let head : IsHead p P = record { of_left = n.of_left; of_kids = n.of_kids; of_extras = n.of_extras; distinct = ((f.head).1).distinct } in
+          let body = body_right raw sorts r p P head prods made n.of_equations n.of_pattern (first_patterns p f.declares_all) f.body in
+          let names = ap all_distinct (names_same raw sorts r p P n.of_left n.of_kids n.of_extras) ∙ head.distinct in
+          let one = and_from (nat_lt P.left (length sorts)) (list_all (λ (kid : Kid). is_known sorts kid.kind) P.kids) (left_within raw sorts r p P n.of_left n.of_kids n.of_extras) (kids_known raw sorts r p P n.of_left n.of_kids n.of_extras) in
+          let two = and_from _ (list_all (λ (x : Extra). is_known sorts x.kind && (not x.attached || is_sort x.kind)) P.extras) one (extras_right raw sorts r p P n.of_left n.of_kids n.of_extras) in
+          let three = and_from _ (all_distinct (names_of sorts P)) two names in
+          let four = and_from _ (list_all (is_equation_right sorts prods P) P.equations) three body.equations in
+          let five = and_from _ (is_defined_once P (occurrences_of sorts P)) four body.once in
+          and_from _ (option_map_or (list_all (is_piece_right P)) P.pattern true) five body.pattern
+
+    head_of_free : (p : RawProd) (P : Production) → named_production raw sorts p ≡ Some P → Free p → IsHead p P
+    head_of_free p P e f =
+        let n = named_parts raw sorts p P e in
+        record { of_left = n.of_left; of_kids = n.of_kids; of_extras = n.of_extras; distinct = ((f.head).1).distinct }
+
+    all_free : Faultless raw → Every Free raw.prods
+    all_free f =
+        let heads = every_of_after HeadFree [] raw.prods (after_from raw.prods (λ b p. head_faults raw.sorts b p ≡ []) (λ b p. HeadFree p) (λ b p rest w h. (head_free b p h).1) [] raw.prods refl (none_after (head_faults raw.sorts) [] raw.prods f.heads)) in
+        let declared = every_from DeclaresAll (λ p. declared_faults p ≡ []) (λ p e. after_from p.items (λ b i. declaration_faults raw.sorts p b i ≡ []) (Declares raw.sorts p) (λ b i rest w h. declares raw.sorts p b i h) [] p.items refl (none_after (declaration_faults raw.sorts p) [] p.items e)) raw.prods f.declarations in
+        let both = every_with HeadFree DeclaresAll (λ p. DeclaresAll p × HasHead p) (λ p h d. (d, has_head p h d)) raw.prods heads declared in
+        every_with (λ p. DeclaresAll p × HasHead p) (λ p. body_faults raw p ≡ []) Free (λ p h e. record { declares_all = h.0; body = e; head = h.1 }) raw.prods both f.bodies
+
+    names_distinct : Faultless raw → all_distinct (map (λ (p : RawProd). p.name) raw.prods) ≡ true
+    names_distinct f =
+        new_distinct [] (λ (p : RawProd). p.name) raw.prods refl (after_from raw.prods (λ b p. head_faults raw.sorts b p ≡ []) (IsNew [] (λ (p : RawProd). p.name)) (λ b p rest w h. (head_free b p h).0) [] raw.prods refl (none_after (head_faults raw.sorts) [] raw.prods f.heads))
+
+    prod_names : (prods : List Production) → Each (Names (named_production raw sorts)) raw.prods prods → map (λ (P : Production). P.name) prods ≡ map (λ (p : RawProd). p.name) raw.prods
+    prod_names prods are =
+        each_map (Names (named_production raw sorts)) (λ (p : RawProd). p.name) (λ (P : Production). P.name) (λ p P e. (named_parts raw sorts p P e).of_name) raw.prods prods are
+
+    grammar_there : Faultless raw → (g : Grammar) × (named_grammar raw ≡ Some g) × IsTrue (is_well_formed g)
+    grammar_there f =
+        let free = all_free f in
+        let heads = every_has IsHead raw.prods (every_from HasHead Free (λ p h. h.head) raw.prods free) in
+        let prods = every_has (Names (named_production raw sorts)) raw.prods (every_from HasNumber Free (has_number heads.0 heads.1) raw.prods free) in
+        let made = each_with (Names (named_production raw sorts)) Free IsHead head_of_free raw.prods prods.0 prods.1 free in
+        let right = each_right (Names (named_production raw sorts)) Free (λ P. is_production_right sorts prods.0 P ≡ true) (production_right prods.0 made) raw.prods prods.0 prods.1 free in
+        let start = start_right f.start in
+        let g : Grammar = record { sorts = sorts; prods = prods.0; start = start.0 } in
+        let of_sorts = sorts_are_right raw.sorts sorts r.named r in
+        let names = ap all_distinct (prod_names prods.0 prods.1) ∙ names_distinct f in
+        let one = and_from (all_distinct (map (λ (s : Sort). s.name) sorts)) (list_all (is_sort_right sorts) sorts) of_sorts.0 of_sorts.1 in
+        let two = and_from _ (all_distinct (map (λ (P : Production). P.name) prods.0)) one names in
+        let three = and_from _ (list_all (is_production_right sorts prods.0) prods.0) two (all_pass (is_production_right sorts prods.0) prods.0 right) in
+        (g, rw (named_each (named_sort raw.sorts) raw.sorts sorts r.named, named_each (named_production raw sorts) raw.prods prods.0 prods.1, start.1) refl, and_from _ (is_start_right sorts start.0) three start.2)
+
+  pub no_fault_is_named : NoFaultIsNamed raw
+  no_fault_is_named e =
+      let f = faultless e in
+      let sorts = sorts_right raw.sorts f.sorts in
+      grammar_there sorts.0 sorts.1 f
