@@ -227,3 +227,96 @@ module _ (raw : RawGrammar) where
       let f = faultless e in
       let sorts = sorts_right raw.sorts f.sorts in
       grammar_there sorts.0 sorts.1 f
+
+  -- ---- and back
+
+  module _ (sorts : List Sort) (r : SortsRight raw.sorts sorts) where
+    record Parts (prods : List Production) (P : Production) : Type 0 where
+      distinct : all_distinct (names_of sorts P) ≡ true
+      equations : list_all (is_equation_right sorts prods P) P.equations ≡ true
+      once : is_defined_once P (occurrences_of sorts P) ≡ true
+      pattern : option_map_or (list_all (is_piece_right P)) P.pattern true ≡ true
+
+    right_parts : (prods : List Production) (P : Production) → is_production_right sorts prods P ≡ true → Parts prods P
+    right_parts prods P e =
+        let five = and_parts _ (option_map_or (list_all (is_piece_right P)) P.pattern true) e in
+        let four = and_parts _ (is_defined_once P (occurrences_of sorts P)) five.0 in
+        let three = and_parts _ (list_all (is_equation_right sorts prods P) P.equations) four.0 in
+        let two = and_parts _ (all_distinct (names_of sorts P)) three.0 in
+        record { distinct = two.1; equations = three.1; once = four.1; pattern = five.1 }
+
+    abbrev IsProduction : RawProd → Production → Type 0
+    IsProduction p P = named_production raw sorts p ≡ Some P
+
+    head_of_right : (prods : List Production) (p : RawProd) (P : Production) → IsProduction p P → is_production_right sorts prods P ≡ true → Head raw.sorts p P.left P.kids P.extras
+    head_of_right prods p P e h =
+        let n = named_parts raw sorts p P e in
+        record {
+          of_left = n.of_left;
+          of_kids = n.of_kids;
+          of_extras = n.of_extras;
+          distinct = ap all_distinct (sym (names_same raw sorts r p P n.of_left n.of_kids n.of_extras)) ∙ (right_parts prods P h).distinct;
+        }
+
+    -- the faults of a production, none of which is there
+    record NoneOf (p : RawProd) : Type 0 where
+      head : HeadFree sorts r p
+      declarations : declared_faults p ≡ []
+      body : body_faults raw p ≡ []
+
+    module _ (prods : List Production) (made : Each (λ p P. Head raw.sorts p P.left P.kids P.extras) raw.prods prods) where
+      none_of : (p : RawProd) (P : Production) → IsProduction p P → is_production_right sorts prods P ≡ true → NoneOf p
+      none_of p P e h =
+          let n = named_parts raw sorts p P e in
+          let head = head_of_right prods p P e h in
+          let parts = right_parts prods P h in
+          let patterns = (pattern_was_right raw.sorts p P.kids (are_kids raw.sorts p.kids P.kids n.of_kids) p.items P.pattern n.of_pattern).0 in
+          let declared = head_declares raw.sorts p P.left P.kids P.extras head patterns in
+          record {
+            head = ((P.left, n.of_left), head_kids raw.sorts p P.left P.kids P.extras head);
+            declarations = after_none (declaration_faults raw.sorts p) [] p.items (after_from p.items (Declares raw.sorts p) (λ b i. declaration_faults raw.sorts p b i ≡ []) (λ b i rest w k. declaration_faultless raw.sorts p b i k) [] p.items refl declared);
+            body = body_faultless raw sorts r p P head prods made n.of_equations n.of_pattern (record { equations = parts.equations; once = parts.once; pattern = parts.pattern });
+          }
+
+    none_of_all : (prods : List Production) (start : ℕ) → Each IsProduction raw.prods prods → sort_number raw.sorts raw.start ≡ Some start → all_distinct (map (λ (P : Production). P.name) prods) ≡ true → list_all (is_production_right sorts prods) prods ≡ true → is_start_right sorts start ≡ true → Faultless raw
+    none_of_all prods start are e names rights s =
+        let right = every_passes (is_production_right sorts prods) prods rights in
+        let made = each_with_right IsProduction (λ P. is_production_right sorts prods P ≡ true) (λ p P. Head raw.sorts p P.left P.kids P.extras) (head_of_right prods) raw.prods prods are right in
+        let none = each_left IsProduction NoneOf (λ P. is_production_right sorts prods P ≡ true) (none_of prods made) raw.prods prods are right in
+        let new = distinct_new [] (λ (p : RawProd). p.name) raw.prods (ap all_distinct (sym (prod_names sorts r prods are)) ∙ names) in
+        let heads = after_both (IsNew [] (λ (p : RawProd). p.name)) (λ b p. HeadFree sorts r p) [] raw.prods new (after_of_every (HeadFree sorts r) [] raw.prods (every_from (HeadFree sorts r) NoneOf (λ p h. h.head) raw.prods none)) in
+        record {
+          sorts = sorts_faultless raw.sorts sorts r;
+          heads = after_none (head_faults raw.sorts) [] raw.prods (after_from raw.prods (λ b p. IsNew [] (λ (p : RawProd). p.name) b p × HeadFree sorts r p) (λ b p. head_faults raw.sorts b p ≡ []) (λ b p rest w h. free_head sorts r b p h.0 h.1) [] raw.prods refl heads);
+          start = start_faultless sorts r start e s;
+          declarations = every_from (λ p. declared_faults p ≡ []) NoneOf (λ p h. h.declarations) raw.prods none;
+          bodies = every_from (λ p. body_faults raw p ≡ []) NoneOf (λ p h. h.body) raw.prods none;
+        }
+
+  well_formed_faultless : (sorts : List Sort) (prods : List Production) (start : ℕ) → Each (Names (named_sort raw.sorts)) raw.sorts sorts → Each (Names (named_production raw sorts)) raw.prods prods → sort_number raw.sorts raw.start ≡ Some start → IsTrue (is_well_formed (record { sorts = sorts; prods = prods; start = start })) →
+      Faultless raw
+  well_formed_faultless sorts prods start of_sorts are e h =
+      let four = and_parts _ (is_start_right sorts start) h in
+      let three = and_parts _ (list_all (is_production_right sorts prods) prods) four.0 in
+      let two = and_parts _ (all_distinct (map (λ (P : Production). P.name) prods)) three.0 in
+      let one = and_parts (all_distinct (map (λ (s : Sort). s.name) sorts)) (list_all (is_sort_right sorts) sorts) two.0 in
+      none_of_all sorts (sorts_were_right raw.sorts sorts of_sorts one.0 one.1) prods start are e two.1 three.1 four.1
+
+  abbrev finished : List Sort → List Production → ℕ → Grammar
+  finished sorts prods start = record { sorts = sorts; prods = prods; start = start }
+
+  abbrev with_start : List Sort → List Production → Option Grammar
+  with_start sorts prods = option_map (finished sorts prods) (sort_number raw.sorts raw.start)
+
+  abbrev with_prods : List Sort → Option Grammar
+  with_prods sorts = option_and_then (with_start sorts) (each_some (map (named_production raw sorts) raw.prods))
+
+  started : (sorts : List Sort) (prods : List Production) (g : Grammar) (o : Option ℕ) → sort_number raw.sorts raw.start ≡ o → option_map (finished sorts prods) o ≡ Some g → Each (Names (named_sort raw.sorts)) raw.sorts sorts → Each (Names (named_production raw sorts)) raw.prods prods → IsTrue (is_well_formed g) → Faultless raw
+  started sorts prods g None is e of_sorts are h = absurd (cc)
+  started sorts prods g (Some start) is e of_sorts are h =
+      let same : finished sorts prods start ≡ g = cc in
+      well_formed_faultless sorts prods start of_sorts are is (subst (λ g. IsTrue (is_well_formed g)) (sym same) h)
+
+  pub named_has_no_fault : NamedHasNoFault raw
+  named_has_no_fault g e h =
+      no_fault (option_and_then_some with_prods (each_some (map (named_sort raw.sorts) raw.sorts)) g e (λ sorts es f. option_and_then_some (with_start sorts) (each_some (map (named_production raw sorts) raw.prods)) g f (λ prods ep l. started sorts prods g (sort_number raw.sorts raw.start) refl l (each_named (named_sort raw.sorts) raw.sorts sorts es) (each_named (named_production raw sorts) raw.prods prods ep) h)))
