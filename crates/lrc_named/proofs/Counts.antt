@@ -1,10 +1,10 @@
 -- Each place that is to be defined has one equation exactly where no target is defined twice, none is missing, and
 -- what is declared has no other equation.
-use Rattle.std.proofs.Common.{◌≡◌, ℕ, zero, suc, ◌+◌, ◌≤◌, Bool, true, false, not, ◌&&◌, ◌||◌, cond, ◌⊎◌, inl, inr, List, [], ◌∷◌, ◌++◌, map, flat_map, length, find, slice_get, count_by, ◌==◌, nat_eq, Option, Some, None, bytes_eq, refl, sym, ap, ap₂, ◌∙◌, subst, arith, append-nil, append_assoc}
-use Rattle.std.specs.Prelude.{option_map, option_and_then, ⊤}
+use Rattle.std.proofs.Common.{◌≡◌, ℕ, ◌+◌, ◌≤◌, Bool, true, false, not, ◌&&◌, ◌||◌, cond, List, [], ◌∷◌, ◌++◌, map, flat_map, find, slice_get, count_by, ◌==◌, nat_eq, Option, Some, None, bytes_eq, refl, sym, ap, ◌∙◌, subst, arith, append-nil}
+use Rattle.std.specs.Prelude.{option_map, option_and_then}
 use Rattle.std.specs.Option.{option_map_or}
 use Rattle.std.specs.List.{list_any, list_all, range_with_len}
-use Rattle.std.proofs.lemmas.Bool.{cases_Bool, and_parts, and_from, or_parts, or_from, or_left, or_right, not-true, not-false, not_from_true, not_from_false, both_ways, false_from_ne_true}
+use Rattle.std.proofs.lemmas.Bool.{and_parts, or_parts, or_left, or_right, not-true, not-false, not_from_true, both_ways, false_from_ne_true}
 use Rattle.std.proofs.lemmas.Bool.Decides.{Decides-eqb}
 use Rattle.std.proofs.lemmas.List.Folds.{list_any-append}
 use Rattle.lrc_base.specs.declared.grammar.Sort.{Sort}
@@ -14,7 +14,6 @@ use Rattle.lrc_base.specs.declared.expr.Expr.{Expr}
 use Rattle.lrc_base.specs.declared.raw.RawKind.{RawKind}
 use Rattle.lrc_base.specs.declared.raw.RawKind.TheVariants as rk
 use Rattle.lrc_base.specs.declared.raw.RawAttr.{RawAttr}
-use Rattle.lrc_base.specs.declared.raw.RawSort.{RawSort}
 use Rattle.lrc_base.specs.declared.raw.RawKid.{RawKid}
 use Rattle.lrc_base.specs.declared.raw.RawItem.{RawItem}
 use Rattle.lrc_base.specs.declared.raw.RawItem.TheVariants as item
@@ -23,16 +22,16 @@ use Rattle.lrc_base.specs.declared.raw.RawGrammar.{RawGrammar}
 use Rattle.lrc_base.specs.declared.raw.RawExpr.{RawExpr}
 use Rattle.lrc_meaning.specs.Grammar.{Occurrence, occurrences_of, is_defined_once, all_distinct}
 use Rattle.lrc_meaning.specs.Naming.{named_sort, named_expr, occurrence_number}
-use Rattle.lrc_faults.specs.Faults.{Name, Fault, is_among, where_true, missing_equation, attrs_named, attrs_of_kind, attr_names, kid_names, Declared, local, attached, declared_by, declared_name, Means, nothing, left_attr, leaf, symbol, value, tree, means, left_or_other, kid_or_declared, kid_means, declared_means, Target, same_target, target_of, has_target, target_fault, missing_target, missing_of_left, missing_of_symbol, missing_of_kid, missing_of_declared, missing}
-use Rattle.lrc_named.proofs.Lists.{number, Every, every_from, every_parts, every_both, every_flat, every_of_flat, every_with, every_mapped, every_of_mapped, every_fails, none_passes, every_found, every_passes, all_pass, every_middle, any_mapped, Each, each_length, each_at, each_tally, range_all, Names, After, after_from, after_of_whole, empty_parts, empty_both, empty_each, each_empty, none_where, where_none, tally, count-tally, tally-append, tally_none, none_tally, tally_some, some_tally}
-use Rattle.lrc_named.proofs.Names.{same_name, own_name, names_swap, any_named, called, name_among}
+use Rattle.lrc_faults.specs.Faults.{Name, Fault, is_among, missing_equation, attrs_named, attrs_of_kind, attr_names, kid_names, Declared, local, attached, declared_by, declared_name, left_attr, means, left_or_other, kid_or_declared, kid_means, declared_means, Target, same_target, target_of, has_target, target_fault, missing_target, missing_of_left, missing_of_symbol, missing_of_kid, missing_of_declared, missing}
+use Rattle.lrc_named.proofs.Lists.{number, Every, every_from, every_parts, every_both, every_flat, every_of_flat, every_with, every_mapped, every_of_mapped, every_fails, every_found, any_mapped, Each, each_length, each_at, each_tally, range_all, Names, After, empty_parts, empty_both, empty_each, each_empty, none_where, where_none, tally, count-tally, tally-append, tally_none, none_tally, tally_some, some_tally}
+use Rattle.lrc_named.proofs.Names.{same_name, own_name, called, name_among}
 use Rattle.lrc_named.proofs.Sorts.{AreDistinct}
-use Rattle.lrc_named.proofs.Heads.{declared_in, declared_kind, is_attached, own_names, Head}
+use Rattle.lrc_named.proofs.Heads.{declared_in, declared_kind, Head}
 use Rattle.lrc_named.proofs.Patterns.{AtMostOne}
 use Rattle.lrc_named.proofs.Places.{Place, own_place, symbol_place, value_place, kid_places, declared_places, places_of, is_at, target_at}
 use Rattle.lrc_named.proofs.Meanings.{alone, of_symbol, alone_place, find_alone, lefts, rights}
 use Rattle.lrc_named.proofs.Occurrences.{Stands, stand, all_called, occurrence_at}
-use Rattle.lrc_named.proofs.Distinct.{one_target, own_target, number_is, places_apart}
+use Rattle.lrc_named.proofs.Distinct.{one_target, number_is, places_apart}
 use Rattle.lrc_named.proofs.Equations.{RawEquation, raw_equations, flat_map_both, names, named_raw, RightAt, DefinesLeft, means_declared}
 
 -- ---- targets that are defined once

@@ -1,9 +1,9 @@
 -- The places of a production whose names are distinct are apart, so a target has the number of one place alone.
-use Rattle.std.proofs.Common.{◌≡◌, ℕ, zero, suc, Bool, true, false, not, ◌&&◌, ◌||◌, cond, ◌⊎◌, inl, inr, List, [], ◌∷◌, ◌++◌, map, flat_map, find, slice_get, ◌==◌, nat_eq, Option, Some, None, bytes_eq, refl, sym, ap, ap₂, ◌∙◌, subst, arith, ne_eqb}
-use Rattle.std.specs.Prelude.{option_map, ⊤}
+use Rattle.std.proofs.Common.{◌≡◌, ℕ, zero, suc, Bool, true, false, not, ◌&&◌, ◌||◌, cond, List, [], ◌∷◌, ◌++◌, map, flat_map, slice_get, ◌==◌, Option, Some, None, bytes_eq, refl, sym, ap, ap₂, ◌∙◌, subst, arith, ne_eqb}
+use Rattle.std.specs.Prelude.{option_map}
 use Rattle.std.specs.Bool.{one_answer}
 use Rattle.std.specs.List.{list_any}
-use Rattle.std.proofs.lemmas.Bool.{cases_Bool, and_parts, and_from, or_parts, or_from, or_left, or_right, not-true, false_from_ne_true, both_ways}
+use Rattle.std.proofs.lemmas.Bool.{and_parts, and_from, or_parts, or_left, or_right, not-true, false_from_ne_true, both_ways}
 use Rattle.std.proofs.lemmas.Bool.Decides.{Decides-eqb}
 use Rattle.std.proofs.lemmas.List.Folds.{list_any-append}
 use Rattle.lrc_base.specs.declared.raw.RawKind.{RawKind}
@@ -16,10 +16,10 @@ use Rattle.lrc_meaning.specs.Grammar.{all_distinct}
 use Rattle.lrc_meaning.specs.Naming.{same_owner}
 use Rattle.lrc_faults.specs.Faults.{Name, is_among, attrs_named, attrs_of_kind, attr_names, kid_names, Declared, local, attached, declared_name, Target, same_target}
 use Rattle.lrc_named.proofs.Lists.{number, Every, every_from, every_both, every_of_all}
-use Rattle.lrc_named.proofs.Names.{same_name, own_name, names_swap, any_named, distinct_parts, flat_map_single}
+use Rattle.lrc_named.proofs.Names.{same_name, own_name, names_swap, flat_map_single}
 use Rattle.lrc_named.proofs.Sorts.{AreDistinct}
-use Rattle.lrc_named.proofs.Heads.{attrs_distinct, declared_kind, is_attached, declared_in, own_names}
-use Rattle.lrc_named.proofs.Places.{Place, own_place, symbol_place, value_place, kid_places, declared_places, places_of, is_at, target_at, Apart, HeadAmong, apart_both, heads_among, apart_flat}
+use Rattle.lrc_named.proofs.Heads.{attrs_distinct, declared_in, own_names}
+use Rattle.lrc_named.proofs.Places.{Place, own_place, symbol_place, kid_places, declared_places, places_of, is_at, target_at, Apart, HeadAmong, apart_both, heads_among, apart_flat}
 use Rattle.lrc_named.proofs.Meanings.{alone, lefts, rights, own_group, under_own, under_kid, under_declared}
 
 -- ---- targets

@@ -1,9 +1,9 @@
 -- An equation has no fault exactly where it is named, defines what is to be defined, and has the kind of its target.
-use Rattle.std.proofs.Common.{◌≡◌, ℕ, Bool, true, false, not, ◌&&◌, ◌||◌, cond, ◌⊎◌, inl, inr, List, [], ◌∷◌, ◌++◌, map, flat_map, find, slice_get, nat_eq, Option, Some, None, bytes_eq, refl, sym, ap, ap₂, ◌∙◌, subst, arith, append_assoc}
+use Rattle.std.proofs.Common.{◌≡◌, ℕ, Bool, true, false, not, ◌&&◌, cond, List, [], ◌∷◌, ◌++◌, map, flat_map, find, Option, Some, None, bytes_eq, refl, sym, ap, ◌∙◌, subst, append_assoc}
 use Rattle.std.specs.Prelude.{option_map, option_and_then, ⊤}
 use Rattle.std.specs.Option.{option_map_or}
 use Rattle.std.specs.List.{list_any}
-use Rattle.std.proofs.lemmas.Bool.{cases_Bool, and_parts, and_from, not-true, not-false, not_from_true, not_from_false, both_ways, or_left, or_right}
+use Rattle.std.proofs.lemmas.Bool.{and_parts, not-true, not-false, not_from_true, both_ways, or_left, or_right}
 use Rattle.std.proofs.lemmas.Bool.Decides.{Decides-eqb}
 use Rattle.lrc_base.specs.declared.grammar.Kind.{Kind}
 use Rattle.lrc_base.specs.declared.grammar.Kind.TheVariants as k
@@ -23,16 +23,15 @@ use Rattle.lrc_base.specs.declared.raw.RawExpr.{RawExpr}
 use Rattle.lrc_meaning.specs.Tree.{same_kind}
 use Rattle.lrc_meaning.specs.Grammar.{Occurrence, occurrences_of, is_equation_right, all_distinct}
 use Rattle.lrc_meaning.specs.Expression.{Expression, expression}
-use Rattle.lrc_meaning.specs.Naming.{Known, named_kind, named_sort, named_expr, named_target, named_equation, occurrence_number, pattern_of}
-use Rattle.lrc_faults.specs.Faults.{Name, Fault, FaultKind, fault, fault_of, unknown, not_normal, wrong_kind, double_equation, is_among, where_true, attr_in_sort, attrs_named, Declared, local, attached, declared_by, declared_name, Means, nothing, left_attr, leaf, symbol, value, tree, means, left_or_other, kid_or_declared, declared_means, symbol_sort, is_nothing, Found, of_kind, same_kind as same_raw_kind, kind_agrees, expr_faults, found_of, Target, target_of, target_fault, has_target, equation_faults, own_equation, attr_equation, symbol_equation, piece_faults, item_faults}
+use Rattle.lrc_meaning.specs.Naming.{Known, named_kind, named_sort, named_expr, named_target, named_equation, pattern_of}
+use Rattle.lrc_faults.specs.Faults.{Name, Fault, fault, fault_of, not_normal, wrong_kind, double_equation, where_true, attr_in_sort, attrs_named, Declared, local, attached, declared_by, declared_name, Means, nothing, left_attr, leaf, symbol, value, tree, means, left_or_other, kid_or_declared, declared_means, symbol_sort, is_nothing, Found, same_kind as same_raw_kind, kind_agrees, expr_faults, found_of, Target, target_of, target_fault, has_target, equation_faults, own_equation, attr_equation, symbol_equation, piece_faults, item_faults}
 use Rattle.lrc_named.proofs.Lists.{number, Every, Each, Names, FoundAt, absent, there, empty_parts, empty_both, none_where, where_none}
-use Rattle.lrc_named.proofs.Names.{same_name, own_name, called, distinct_parts}
+use Rattle.lrc_named.proofs.Names.{own_name, called, distinct_parts}
 use Rattle.lrc_named.proofs.Sorts.{same_kinds}
-use Rattle.lrc_named.proofs.Heads.{declared_in, own_names, Head}
-use Rattle.lrc_named.proofs.Patterns.{AreRight}
+use Rattle.lrc_named.proofs.Heads.{declared_in, Head}
 use Rattle.lrc_named.proofs.Places.{Place, own_place, symbol_place, value_place, places_of, is_at}
 use Rattle.lrc_named.proofs.Meanings.{alone, of_symbol, alone_place, symbol_place_of, find_alone, find_symbol, no_other_left, no_other_kid}
-use Rattle.lrc_named.proofs.Occurrences.{Stands, all_called, occurrence_at, target_found}
+use Rattle.lrc_named.proofs.Occurrences.{Stands, occurrence_at, target_found}
 use Rattle.lrc_named.proofs.Expressions.{known, kind_in, Agrees, right, wrong, agrees}
 
 -- an equation as it is written

@@ -1,6 +1,6 @@
 -- An expression has no fault exactly where it is named and has a kind, and then the kinds agree.
-use Rattle.std.proofs.Common.{◌≡◌, ℕ, ℤ, Bool, true, false, not, ◌&&◌, ◌||◌, cond, ◌⊎◌, inl, inr, List, [], ◌∷◌, ◌++◌, map, flat_map, find, slice_get, nat_eq, Option, Some, None, bytes_eq, refl, sym, ap, ap₂, ◌∙◌, subst, arith}
-use Rattle.std.specs.Prelude.{option_map, option_and_then, ⊤}
+use Rattle.std.proofs.Common.{◌≡◌, ℕ, ℤ, Bool, true, false, not, ◌&&◌, cond, List, [], ◌∷◌, ◌++◌, map, flat_map, find, slice_get, nat_eq, Option, Some, None, bytes_eq, refl, sym, ap, ap₂, ◌∙◌, subst}
+use Rattle.std.specs.Prelude.{option_map, option_and_then}
 use Rattle.std.specs.Option.{option_map_or}
 use Rattle.std.proofs.lemmas.Bool.{and_right}
 use Rattle.lrc_base.specs.declared.grammar.Kind.{Kind}
@@ -15,16 +15,15 @@ use Rattle.lrc_base.specs.declared.expr.Expr.TheVariants as e
 use Rattle.lrc_base.specs.declared.raw.RawKind.{RawKind}
 use Rattle.lrc_base.specs.declared.raw.RawKind.TheVariants as rk
 use Rattle.lrc_base.specs.declared.raw.RawAttr.{RawAttr}
-use Rattle.lrc_base.specs.declared.raw.RawSort.{RawSort}
 use Rattle.lrc_base.specs.declared.raw.RawKid.{RawKid}
 use Rattle.lrc_base.specs.declared.raw.RawProd.{RawProd}
 use Rattle.lrc_base.specs.declared.raw.RawGrammar.{RawGrammar}
 use Rattle.lrc_base.specs.declared.raw.RawExpr.{RawExpr, RawExpr-F, ind-RawExpr, roll-RawExpr, fold-roll-RawExpr}
 use Rattle.lrc_base.specs.declared.raw.RawExpr.TheVariants as v
-use Rattle.lrc_meaning.specs.Tree.{int, bool, name, same_kind}
-use Rattle.lrc_meaning.specs.Grammar.{Occurrence, occurrences_of, read_kind, leaf_kind, of_kind as kind_if, common_kind, operated_kind, expression_kind, have_kinds}
-use Rattle.lrc_meaning.specs.Expression.{Expression, literal, occurrence, leaf as leaf_of, binary, choice as choice_of, make, expression, Expressions, expression_row}
-use Rattle.lrc_meaning.specs.Naming.{Known, named_kind, named_sort, named_expr, or_leaf, occurrence_number, written_number, each_some}
+use Rattle.lrc_meaning.specs.Tree.{same_kind}
+use Rattle.lrc_meaning.specs.Grammar.{Occurrence, occurrences_of, of_kind as kind_if, common_kind, operated_kind, expression_kind, have_kinds}
+use Rattle.lrc_meaning.specs.Expression.{Expression, expression, Expressions, expression_row}
+use Rattle.lrc_meaning.specs.Naming.{Known, named_kind, named_sort, named_expr, or_leaf, each_some}
 use Rattle.lrc_meaning.proofs.ExpressionLemmas.{expression-Int, expression-Bool, expression-Name, expression-Occ, expression-Leaf, expression-Op, expression-If, expression-Make}
 use Rattle.lrc_naming.proofs.NamingLemmas.{named_expr-Int, named_expr-Bool, named_expr-Name, named_expr-One, named_expr-Two, named_expr-Op, named_expr-If, named_expr-Make}
 use Rattle.lrc_faults.specs.Faults.{Name, Fault, fault, fault_of, unknown, not_normal, attr_in_sort, Means, nothing, left_attr, leaf, symbol, value, tree, means, symbol_sort, is_nothing, Found, at_fault, of_kind, behind, same_kind as same_raw_kind, read_alone, read_attr, read_of, checked, both_are_numbers, operated, operation, choice, is_right, are_right, constructed, found_step, found_of}
@@ -34,7 +33,7 @@ use Rattle.lrc_named.proofs.Sorts.{IsKind, same_kinds}
 use Rattle.lrc_named.proofs.Heads.{IsKid, are_kids, Head}
 use Rattle.lrc_named.proofs.Places.{Place, own_place, symbol_place, value_place, places_of, is_at}
 use Rattle.lrc_named.proofs.Meanings.{alone, of_symbol, alone_place, symbol_place_of, find_alone, find_symbol}
-use Rattle.lrc_named.proofs.Occurrences.{Stands, all_called, occurrence_at, target_found, IsLeaf, LeafAt, leaf_of_name}
+use Rattle.lrc_named.proofs.Occurrences.{Stands, all_called, occurrence_at, target_found, LeafAt, leaf_of_name}
 
 -- ---- induction, variant by variant
 

@@ -1,35 +1,30 @@
 -- A grammar as it is written has no fault exactly where it is named and well formed.
-use Rattle.std.proofs.Common.{◌≡◌, ℕ, ◌<◌, Bool, true, false, not, ◌&&◌, ◌||◌, cond, List, [], ◌∷◌, ◌++◌, map, flat_map, length, Option, Some, None, nat_lt, is_none, IsTrue, codes, refl, sym, ap, ap₂, ◌∙◌, subst, arith, lt-ltb}
-use Rattle.std.specs.Prelude.{option_map, option_and_then, ⊤}
+use Rattle.std.proofs.Common.{◌≡◌, ℕ, Bool, true, false, not, ◌&&◌, ◌||◌, cond, List, [], ◌∷◌, ◌++◌, map, flat_map, length, Option, Some, None, nat_lt, is_none, IsTrue, codes, refl, sym, ap, ◌∙◌, subst, lt-ltb}
+use Rattle.std.specs.Prelude.{option_map, option_and_then}
 use Rattle.std.specs.Option.{option_map_or}
-use Rattle.std.specs.List.{list_any, list_all}
+use Rattle.std.specs.List.{list_all}
 use Rattle.std.proofs.lemmas.Bool.{and_parts, and_from, not-true, not_from_false}
 use Rattle.std.proofs.lemmas.Option.{option_and_then_some}
 use Rattle.lrc_base.specs.declared.grammar.Attr.{Attr}
 use Rattle.lrc_base.specs.declared.grammar.Sort.{Sort}
 use Rattle.lrc_base.specs.declared.grammar.Kid.{Kid}
 use Rattle.lrc_base.specs.declared.grammar.Extra.{Extra}
-use Rattle.lrc_base.specs.declared.grammar.Equation.{Equation}
-use Rattle.lrc_base.specs.declared.grammar.Piece.{Piece}
 use Rattle.lrc_base.specs.declared.grammar.Production.{Production}
 use Rattle.lrc_base.specs.declared.raw.RawAttr.{RawAttr}
-use Rattle.lrc_base.specs.declared.raw.RawSort.{RawSort}
-use Rattle.lrc_base.specs.declared.raw.RawKid.{RawKid}
-use Rattle.lrc_base.specs.declared.raw.RawItem.{RawItem}
 use Rattle.lrc_base.specs.declared.raw.RawProd.{RawProd}
 use Rattle.lrc_base.specs.declared.raw.RawGrammar.{RawGrammar}
 use Rattle.lrc_meaning.specs.Tree.{is_sort}
 use Rattle.lrc_meaning.specs.Grammar.{Grammar, attrs_of_sort, occurrences_of, all_distinct, is_known, names_of, is_sort_right, is_equation_right, is_defined_once, is_piece_right, is_production_right, is_start_right, is_well_formed}
-use Rattle.lrc_meaning.specs.Naming.{each_some, sort_number, named_sort, named_kid, named_extras, named_production, named_grammar}
-use Rattle.lrc_faults.specs.Faults.{Name, Fault, fault, twice, unknown, start_inherits, where_true, is_among, attrs_named, sort_faults, kid_faults, head_faults, first_inherited, start_faults, declaration_faults, is_pattern, body_faults, each_after, faults, first, first_fault}
+use Rattle.lrc_meaning.specs.Naming.{each_some, sort_number, named_sort, named_production, named_grammar}
+use Rattle.lrc_faults.specs.Faults.{Name, Fault, fault, twice, unknown, start_inherits, where_true, is_among, attrs_named, sort_faults, kid_faults, head_faults, first_inherited, start_faults, declaration_faults, body_faults, each_after, faults, first, first_fault}
 use Rattle.lrc_named.specs.Laws.{NoFaultIsNamed, NamedHasNoFault}
-use Rattle.lrc_named.proofs.Lists.{Every, every_from, every_with, every_has, every_passes, all_pass, Each, each_map, each_right, each_left, each_with, each_with_right, each_gives, each_named, named_each, Names, After, none_after, after_none, after_from, after_both, every_of_after, after_of_every, empty_parts, empty_both, empty_each, each_empty, none_where, where_none, first_none}
+use Rattle.lrc_named.proofs.Lists.{Every, every_from, every_with, every_has, every_passes, all_pass, Each, each_map, each_right, each_left, each_with, each_with_right, each_named, named_each, Names, After, none_after, after_none, after_from, after_both, every_of_after, after_of_every, empty_parts, empty_both, empty_each, each_empty, none_where, where_none, first_none}
 use Rattle.lrc_named.proofs.Names.{IsNew, new_distinct, distinct_new}
 use Rattle.lrc_named.proofs.Sorts.{SortsRight, sorts_right, sorts_faultless, sorts_are_right, sorts_were_right, IsAttr, attrs_at, numbered_sort, sort_numbered}
-use Rattle.lrc_named.proofs.Heads.{own_names, Head, Declares, declares, declaration_faultless, head_right, head_kids, head_declares}
+use Rattle.lrc_named.proofs.Heads.{Head, Declares, declares, declaration_faultless, head_right, head_kids, head_declares}
 use Rattle.lrc_named.proofs.Patterns.{IsFirstPattern, pattern_was_right}
 use Rattle.lrc_named.proofs.Heads.{are_kids}
-use Rattle.lrc_named.proofs.Productions.{IsNamed, named_parts, named_whole, names_same, left_within, kids_known, extras_right, body_named, BodyRight, body_right, body_faultless}
+use Rattle.lrc_named.proofs.Productions.{named_parts, named_whole, names_same, left_within, kids_known, extras_right, body_named, body_right, body_faultless}
 
 -- ---- the parts of the list of faults
 

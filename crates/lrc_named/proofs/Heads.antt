@@ -1,13 +1,10 @@
 -- What a production declares: its left sort, its children, its locals and nonterminal attributes, and their faults.
-use Rattle.std.proofs.Common.{◌≡◌, ℕ, Bool, true, false, not, ◌&&◌, ◌||◌, ◌⊎◌, inl, inr, cond, List, [], ◌∷◌, ◌++◌, map, flat_map, length, slice_get, find, Option, Some, None, nat_lt, bytes_eq, is_none, refl, sym, ap, ap₂, ◌∙◌, subst, arith, lt-ltb, append_assoc, append-nil}
-use Rattle.std.specs.Prelude.{option_map, option_and_then, ⊤, codes}
-use Rattle.std.specs.List.{list_any, list_all}
-use Rattle.std.proofs.lemmas.Bool.{cases_Bool, and_parts, and_from, or_right}
+use Rattle.std.proofs.Common.{◌≡◌, ℕ, Bool, true, false, ◌&&◌, cond, List, [], ◌∷◌, ◌++◌, map, flat_map, find, Option, Some, None, bytes_eq, refl, sym, ap, ◌∙◌, subst, append_assoc, append-nil}
+use Rattle.std.specs.Prelude.{option_map, codes}
+use Rattle.std.specs.List.{list_any}
 use Rattle.std.proofs.lemmas.List.{map-append}
 use Rattle.lrc_base.specs.declared.grammar.Kind.{Kind}
 use Rattle.lrc_base.specs.declared.grammar.Kind.TheVariants as k
-use Rattle.lrc_base.specs.declared.grammar.Attr.{Attr}
-use Rattle.lrc_base.specs.declared.grammar.Sort.{Sort}
 use Rattle.lrc_base.specs.declared.grammar.Kid.{Kid}
 use Rattle.lrc_base.specs.declared.grammar.Extra.{Extra}
 use Rattle.lrc_base.specs.declared.raw.RawKind.{RawKind}
@@ -18,13 +15,12 @@ use Rattle.lrc_base.specs.declared.raw.RawKid.{RawKid}
 use Rattle.lrc_base.specs.declared.raw.RawItem.{RawItem}
 use Rattle.lrc_base.specs.declared.raw.RawItem.TheVariants as item
 use Rattle.lrc_base.specs.declared.raw.RawProd.{RawProd}
-use Rattle.lrc_meaning.specs.Tree.{is_sort}
-use Rattle.lrc_meaning.specs.Grammar.{attrs_of_sort, all_distinct, is_known}
-use Rattle.lrc_meaning.specs.Naming.{each_some, sort_number, named_kind, named_sort, named_kid, named_extra, named_extras}
-use Rattle.lrc_faults.specs.Faults.{Name, Fault, fault, unknown, twice, where_true, is_among, kind_faults, attrs_in, attrs_named, attr_names, kid_names, kid_faults, Declared, local, attached, declared_by, declared_name, is_pattern, names_before, declaration_faults, each_after}
-use Rattle.lrc_named.proofs.Lists.{Every, every_from, every_passes, all_pass, Each, each_from, each_map, each_gives, each_gives_right, every_has, each_named, named_each, Names, empty_parts, empty_both, none_where, where_none, After, none_after, after_none, after_from, after_both, every_of_after, after_of_every, every_flat, every_of_flat}
+use Rattle.lrc_meaning.specs.Grammar.{all_distinct}
+use Rattle.lrc_meaning.specs.Naming.{each_some, sort_number, named_kind, named_kid, named_extra, named_extras}
+use Rattle.lrc_faults.specs.Faults.{Name, fault, twice, where_true, is_among, kind_faults, attrs_in, attr_names, kid_names, kid_faults, Declared, local, attached, declared_by, declared_name, is_pattern, names_before, declaration_faults, each_after}
+use Rattle.lrc_named.proofs.Lists.{Every, Each, each_from, each_gives, every_has, each_named, named_each, Names, empty_parts, empty_both, none_where, where_none, After, none_after, after_none, after_from, after_both, every_of_after, after_of_every, every_flat, every_of_flat}
 use Rattle.lrc_named.proofs.Names.{fresh, fresh_one, one_fresh, IsFresh, fresh_after, after_fresh, fresh-distinct, distinct_parts, IsNew, new_distinct, distinct_new}
-use Rattle.lrc_named.proofs.Sorts.{IsKind, IsAttr, AreDistinct, known_kind, kind_is_sort, kind_faultless, numbered_sort, sort_numbered, attrs_at, kind_is_known}
+use Rattle.lrc_named.proofs.Sorts.{IsKind, AreDistinct, known_kind, kind_is_sort, kind_faultless}
 
 abbrev pub declared_kind : Declared → RawKind
 declared_kind (local n kind) = kind
@@ -225,13 +221,17 @@ module _ (raw : List RawSort) where
         let new = fresh_after front item_names [] p.items (after_from p.items Declares (IsFresh front item_names) (λ b i rest w h. h.fresh_name) [] p.items refl declared) in
         let new' = subst (λ l. fresh l (flat_map item_names p.items) ≡ true) (append-nil front) new in
         let distinct : all_distinct (front ++ flat_map item_names p.items) ≡ true = sym (fresh-distinct front (flat_map item_names p.items) children.1) ∙ new' in
-        let same : front ++ flat_map item_names p.items ≡ own_names raw p = sym (names_same p.items) in
-        (left, children.0.0, all.0, record {
-          of_left = is;
-          of_kids = children.0.1;
-          of_extras = ap each_some (extras_declared p.items) ∙ named_each named_declared (declared_in p.items) all.0 all.1;
-          distinct = subst (λ l. all_distinct l ≡ true) same distinct;
-        })
+        let same : front ++ flat_map item_names p.items ≡ own_names raw p = sym (names_same p.items) in (
+          left,
+          children.0.0,
+          all.0,
+          record {
+            of_left = is;
+            of_kids = children.0.1;
+            of_extras = ap each_some (extras_declared p.items) ∙ named_each named_declared (declared_in p.items) all.0 all.1;
+            distinct = subst (λ l. all_distinct l ≡ true) same distinct;
+          },
+        )
 
     pub head_kids : (left : ℕ) (kids : List Kid) (extras : List Extra) → Head p left kids extras → each_after (kid_faults raw p) [] p.kids ≡ []
     head_kids left kids extras h =

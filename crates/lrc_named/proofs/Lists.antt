@@ -1,5 +1,5 @@
 -- Lists: numbers of first items, lists that are named item by item, and what holds of each item with those before it.
-use Rattle.std.proofs.Common.{◌≡◌, ℕ, zero, suc, ◌+◌, ◌<◌, ◌≤◌, Bool, true, false, not, ◌&&◌, ◌||◌, ◌⊎◌, inl, inr, cond, List, [], ◌∷◌, ◌++◌, map, flat_map, length, slice_get, position, find, count_by, Option, Some, None, nat_lt, refl, sym, ap, ap₂, ◌∙◌, subst, arith, one-add, append_assoc, append-nil, le-ltb, lt-ltb}
+use Rattle.std.proofs.Common.{◌≡◌, ℕ, zero, suc, ◌+◌, ◌<◌, ◌≤◌, Bool, true, false, not, ◌&&◌, ◌||◌, ◌⊎◌, inl, inr, cond, List, [], ◌∷◌, ◌++◌, map, flat_map, length, slice_get, position, find, count_by, Option, Some, None, nat_lt, refl, ap, ap₂, ◌∙◌, subst, arith, one-add, append_assoc, le-ltb, lt-ltb}
 use Rattle.std.specs.Prelude.{option_map, option_and_then, ⊤}
 use Rattle.std.specs.List.{list_any, list_all, position_or_len, range_with_len}
 use Rattle.std.proofs.lemmas.Bool.{cases_Bool, cases_lt, and_parts, and_from, or_parts, or_from}

@@ -1,9 +1,8 @@
 -- What a name means in a production whose names are distinct is the place of that name.
-use Rattle.std.proofs.Common.{◌≡◌, ℕ, Bool, true, false, not, ◌&&◌, ◌||◌, cond, List, [], ◌∷◌, ◌++◌, map, flat_map, find, Option, Some, None, bytes_eq, refl, sym, ap, ap₂, ◌∙◌, subst, arith}
-use Rattle.std.specs.Prelude.{option_map, option_and_then, ⊤}
+use Rattle.std.proofs.Common.{◌≡◌, Bool, true, false, cond, List, [], ◌∷◌, ◌++◌, map, flat_map, find, Option, Some, None, bytes_eq, refl, sym, ap, ap₂, ◌∙◌, subst}
+use Rattle.std.specs.Prelude.{option_map, option_and_then}
 use Rattle.std.specs.Option.{option_or}
-use Rattle.std.specs.List.{list_any}
-use Rattle.std.proofs.lemmas.Bool.{and_parts, or_parts, not-true}
+use Rattle.std.proofs.lemmas.Bool.{or_parts}
 use Rattle.std.proofs.lemmas.List.Folds.{find-append, list_any-append}
 use Rattle.lrc_base.specs.declared.raw.RawKind.{RawKind}
 use Rattle.lrc_base.specs.declared.raw.RawKind.TheVariants as rk
@@ -13,9 +12,9 @@ use Rattle.lrc_base.specs.declared.raw.RawKid.{RawKid}
 use Rattle.lrc_base.specs.declared.raw.RawProd.{RawProd}
 use Rattle.lrc_meaning.specs.Grammar.{all_distinct}
 use Rattle.lrc_faults.specs.Faults.{Name, is_among, attrs_named, attrs_of_kind, attr_names, kid_names, attr_in_sort, Declared, local, attached, declared_name, Means, nothing, left_attr, leaf, symbol, value, tree, means, left_or_other, kid_or_declared, kid_means, declared_means, symbol_sort, Target}
-use Rattle.lrc_named.proofs.Lists.{Every, every_both, every_from, every_of_all}
+use Rattle.lrc_named.proofs.Lists.{Every}
 use Rattle.lrc_named.proofs.Names.{own_name, Parted, distinct_parts, flat_map_single, called, name_among, name_absent}
-use Rattle.lrc_named.proofs.Heads.{declared_kind, is_attached, declared_in, own_names}
+use Rattle.lrc_named.proofs.Heads.{declared_in, own_names}
 use Rattle.lrc_named.proofs.Places.{Place, own_place, symbol_place, value_place, kid_places, declared_places, places_of, is_at, target_at, head_at, Apart, HeadAmong, apart_both, heads_among, apart_flat, found_in, find_flat}
 
 abbrev pub alone : Name → Target

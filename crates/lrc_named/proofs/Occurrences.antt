@@ -1,8 +1,8 @@
 -- Places and occurrences, number by number; leaves by their names.
-use Rattle.std.proofs.Common.{◌≡◌, ℕ, Bool, true, false, not, ◌&&◌, ◌||◌, cond, ◌⊎◌, inl, inr, List, [], ◌∷◌, ◌++◌, map, flat_map, find, slice_get, position, Option, Some, None, bytes_eq, refl, sym, ap, ap₂, ◌∙◌, subst, arith}
-use Rattle.std.specs.Prelude.{option_map, option_and_then, ⊤}
+use Rattle.std.proofs.Common.{◌≡◌, ℕ, Bool, true, false, not, ◌&&◌, cond, List, [], ◌∷◌, ◌++◌, map, flat_map, find, Option, Some, None, bytes_eq, refl, sym, ap, ◌∙◌, subst}
+use Rattle.std.specs.Prelude.{option_and_then, ⊤}
 use Rattle.std.specs.List.{list_any}
-use Rattle.std.proofs.lemmas.Bool.{and_parts, cases_Bool, not-true}
+use Rattle.std.proofs.lemmas.Bool.{and_parts, not-true}
 use Rattle.lrc_base.specs.declared.grammar.Kind.{Kind}
 use Rattle.lrc_base.specs.declared.grammar.Kind.TheVariants as k
 use Rattle.lrc_base.specs.declared.grammar.Attr.{Attr}
@@ -23,8 +23,8 @@ use Rattle.lrc_faults.specs.Faults.{Name, is_among, attrs_named, attrs_of_kind, 
 use Rattle.lrc_named.proofs.Lists.{number, number-map, number_each, position-number, Each, each_both, each_mapped, each_flat, each_is, Names, FoundAt, absent, there, found_at}
 use Rattle.lrc_named.proofs.Names.{same_name, distinct_parts, called, name_absent}
 use Rattle.lrc_named.proofs.Sorts.{IsKind, IsAttr, is_given, is_that_sort, attrs_at, attrs_at_kind}
-use Rattle.lrc_named.proofs.Heads.{declared_kind, is_attached, declared_in, own_names, IsKid, IsExtra, are_kids, are_extras, Head}
-use Rattle.lrc_named.proofs.Places.{Place, own_place, symbol_place, value_place, kid_places, declared_places, places_of, is_at}
+use Rattle.lrc_named.proofs.Heads.{declared_kind, is_attached, declared_in, IsKid, IsExtra, are_kids, are_extras, Head}
+use Rattle.lrc_named.proofs.Places.{Place, own_place, symbol_place, kid_places, declared_places, places_of, is_at}
 
 pub record Stands (raw : List RawSort) (x : Place) (o : Occurrence) : Type 0 where
   pub kind : named_kind raw x.kind ≡ Some o.kind

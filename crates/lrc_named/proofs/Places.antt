@@ -1,21 +1,20 @@
 -- The places of a production: its occurrences as they are written, by name.
-use Rattle.std.proofs.Common.{◌≡◌, ℕ, Bool, true, false, not, ◌&&◌, ◌||◌, ◌⊎◌, inl, inr, cond, List, [], ◌∷◌, ◌++◌, map, flat_map, find, Option, Some, None, bytes_eq, refl, sym, ap, ap₂, ◌∙◌, subst, arith}
-use Rattle.std.specs.Prelude.{option_map, option_and_then, ⊤}
+use Rattle.std.proofs.Common.{◌≡◌, Bool, true, false, not, ◌&&◌, ◌||◌, ◌⊎◌, inl, inr, cond, List, [], ◌∷◌, ◌++◌, map, flat_map, find, Option, Some, None, bytes_eq, refl, sym, ◌∙◌, subst}
+use Rattle.std.specs.Prelude.{option_and_then, ⊤}
 use Rattle.std.specs.Option.{option_or}
 use Rattle.std.specs.List.{list_any}
-use Rattle.std.proofs.lemmas.Bool.{cases_Bool, and_parts, and_from, or_parts, or_from, or_right, or_left, not-true, false_from_ne_true, both_ways}
+use Rattle.std.proofs.lemmas.Bool.{cases_Bool, and_parts, or_parts, or_from, or_right, or_left, not-true, false_from_ne_true, both_ways}
 use Rattle.std.proofs.lemmas.List.Folds.{find-append, list_any-append}
 use Rattle.lrc_base.specs.declared.raw.RawKind.{RawKind}
-use Rattle.lrc_base.specs.declared.raw.RawKind.TheVariants as rk
 use Rattle.lrc_base.specs.declared.raw.RawAttr.{RawAttr}
 use Rattle.lrc_base.specs.declared.raw.RawSort.{RawSort}
 use Rattle.lrc_base.specs.declared.raw.RawKid.{RawKid}
 use Rattle.lrc_base.specs.declared.raw.RawProd.{RawProd}
 use Rattle.lrc_meaning.specs.Grammar.{all_distinct}
 use Rattle.lrc_meaning.specs.Naming.{same_owner}
-use Rattle.lrc_faults.specs.Faults.{Name, is_among, attrs_named, attrs_of_kind, attr_names, kid_names, Declared, local, attached, declared_name, Target, same_target}
-use Rattle.lrc_named.proofs.Lists.{Every, every_from, every_both, every_flat, every_of_all}
-use Rattle.lrc_named.proofs.Names.{same_name, own_name, names_swap, Parted, distinct_parts, flat_map_single}
+use Rattle.lrc_faults.specs.Faults.{Name, is_among, attrs_named, attrs_of_kind, Declared, declared_name, Target, same_target}
+use Rattle.lrc_named.proofs.Lists.{Every, every_from, every_both}
+use Rattle.lrc_named.proofs.Names.{same_name, own_name, names_swap}
 use Rattle.lrc_named.proofs.Heads.{declared_kind, is_attached, declared_in}
 
 -- what stands at an occurrence: its symbol, none for the left side and for the value of a local or nonterminal

@@ -1,12 +1,10 @@
 -- A production has no fault exactly where it is named and is right by number.
-use Rattle.std.proofs.Common.{◌≡◌, ℕ, ◌<◌, Bool, true, false, not, ◌&&◌, ◌||◌, cond, List, [], ◌∷◌, ◌++◌, map, flat_map, length, Option, Some, None, nat_lt, refl, sym, ap, ap₂, ◌∙◌, subst, arith, lt-ltb}
-use Rattle.std.specs.Prelude.{option_map, option_and_then, ⊤}
+use Rattle.std.proofs.Common.{◌≡◌, ℕ, true, not, ◌&&◌, ◌||◌, List, [], ◌∷◌, ◌++◌, map, flat_map, length, Option, Some, None, nat_lt, refl, sym, ap, ap₂, ◌∙◌, subst, lt-ltb}
+use Rattle.std.specs.Prelude.{option_map, option_and_then}
 use Rattle.std.specs.Option.{option_map_or}
-use Rattle.std.specs.List.{list_any, list_all}
-use Rattle.std.proofs.lemmas.Bool.{and_parts, and_from, not-true}
+use Rattle.std.specs.List.{list_all}
+use Rattle.std.proofs.lemmas.Bool.{and_from}
 use Rattle.std.proofs.lemmas.Option.{option_and_then_some}
-use Rattle.lrc_base.specs.declared.grammar.Kind.{Kind}
-use Rattle.lrc_base.specs.declared.grammar.Kind.TheVariants as k
 use Rattle.lrc_base.specs.declared.grammar.Attr.{Attr}
 use Rattle.lrc_base.specs.declared.grammar.Sort.{Sort}
 use Rattle.lrc_base.specs.declared.grammar.Kid.{Kid}
@@ -17,15 +15,16 @@ use Rattle.lrc_base.specs.declared.grammar.Production.{Production}
 use Rattle.lrc_base.specs.declared.raw.RawAttr.{RawAttr}
 use Rattle.lrc_base.specs.declared.raw.RawKid.{RawKid}
 use Rattle.lrc_base.specs.declared.raw.RawItem.{RawItem}
+use Rattle.lrc_base.specs.declared.raw.RawPiece.{RawPiece}
 use Rattle.lrc_base.specs.declared.raw.RawProd.{RawProd}
 use Rattle.lrc_base.specs.declared.raw.RawGrammar.{RawGrammar}
 use Rattle.lrc_meaning.specs.Tree.{is_sort}
-use Rattle.lrc_meaning.specs.Grammar.{attrs_of_sort, occurrences_of, all_distinct, is_known, names_of, is_equation_right, is_defined_once, is_piece_right, is_production_right}
-use Rattle.lrc_meaning.specs.Naming.{Known, each_some, sort_number, named_sort, named_kid, named_extras, called_occurrences, named_equations, pattern_of, named_pattern, named_with, named_production}
-use Rattle.lrc_faults.specs.Faults.{Name, attrs_named, attr_names, kid_names, Declared, local, attached, declared_name, body_faults, item_faults, piece_faults, missing, each_after}
+use Rattle.lrc_meaning.specs.Grammar.{attrs_of_sort, occurrences_of, is_known, names_of, is_equation_right, is_defined_once, is_piece_right}
+use Rattle.lrc_meaning.specs.Naming.{Known, each_some, sort_number, named_kid, named_extras, called_occurrences, named_equations, pattern_of, named_pattern, named_with, named_production}
+use Rattle.lrc_faults.specs.Faults.{attrs_named, Declared, local, attached, declared_name, body_faults, item_faults, piece_faults, missing, each_after}
 use Rattle.lrc_named.proofs.Lists.{Every, every_from, every_middle, every_flat, every_of_flat, every_has, every_passes, all_pass, Each, each_map, each_gives_right, each_right, each_left, each_named, named_each, Names, After, none_after, after_none, after_from, after_of_whole, every_of_after, empty_parts, empty_both}
-use Rattle.lrc_named.proofs.Sorts.{SortsRight, IsAttr, attrs_at, kind_is_known, is_given, is_that_sort}
-use Rattle.lrc_named.proofs.Heads.{declared_in, declared_kind, is_attached, own_names, IsKid, IsExtra, are_kids, are_extras, Head}
+use Rattle.lrc_named.proofs.Sorts.{SortsRight, IsAttr, attrs_at, kind_is_known, is_that_sort}
+use Rattle.lrc_named.proofs.Heads.{declared_in, declared_kind, own_names, IsKid, IsExtra, are_kids, are_extras, Head}
 use Rattle.lrc_named.proofs.Patterns.{IsFirstPattern, PatternOf, pattern_right, pattern_was_right}
 use Rattle.lrc_named.proofs.Places.{places_of}
 use Rattle.lrc_named.proofs.Equations.{RawEquation, raw_equations, named_raw, equations_named, RightAt, right_named, named_right, ItemRight, item_right, item_faultless, DefinesLeft}
@@ -119,6 +118,14 @@ module _ (g : RawGrammar) (sorts : List Sort) where
     numbered qs e =
         each_named (named_raw g sorts r.named p P head prods made) raw_all qs (ap each_some (sym (equations_named g sorts r.named p P head prods made p.items)) ∙ e)
 
+    -- the words of a pattern name children
+    abbrev AreKids : List RawPiece → Type 0
+    AreKids pieces = flat_map (piece_faults p) pieces ≡ []
+
+    pieces_right : After Right [] p.items → Every AreKids (flat_map pattern_of p.items)
+    pieces_right h =
+        every_flat AreKids pattern_of p.items (every_of_after (λ i. Every AreKids (pattern_of i)) [] p.items (after_from p.items Right (λ b i. Every AreKids (pattern_of i)) (λ b i rest w k. k.pieces) [] p.items refl h))
+
     -- a body without faults has equations and a pattern by number
     pub body_named : (patterns : After IsFirstPattern [] p.items) → body_faults g p ≡ [] → ((qs : List Equation) × (named_equations (known_to P) p.items ≡ Some qs)) × ((o : Option (List Piece)) × (named_pattern P.kids p.items ≡ Some o))
     body_named patterns e =
@@ -127,10 +134,6 @@ module _ (g : RawGrammar) (sorts : List Sort) where
         let qs = every_has IsNumbered raw_all (every_from (λ r'. (q : Equation) × IsNumbered r' q) RightEquation (λ r' h. let found = right_named g sorts r.named p P head prods made r' h in (found.0, found.1)) raw_all (all_right items)) in
         let pattern = pattern_right g.sorts p P.kids (are_kids g.sorts p.kids P.kids head.of_kids) p.items patterns (pieces_right items) in
         ((qs.0, ap each_some (equations_named g sorts r.named p P head prods made p.items) ∙ named_each (named_raw g sorts r.named p P head prods made) raw_all qs.0 qs.1), (pattern.0, pattern.1))
-      where
-        pieces_right : After Right [] p.items → Every (λ pieces. flat_map (piece_faults p) pieces ≡ []) (flat_map pattern_of p.items)
-        pieces_right h =
-            every_flat (λ pieces. flat_map (piece_faults p) pieces ≡ []) pattern_of p.items (every_of_after (λ i. Every (λ pieces. flat_map (piece_faults p) pieces ≡ []) (pattern_of i)) [] p.items (after_from p.items Right (λ b i. Every (λ pieces. flat_map (piece_faults p) pieces ≡ []) (pattern_of i)) (λ b i rest w k. k.pieces) [] p.items refl h))
 
     -- each equation is right, each place has one, and the pattern is right
     pub record BodyRight : Type 0 where
@@ -152,10 +155,6 @@ module _ (g : RawGrammar) (sorts : List Sort) where
           pattern = pattern_of_it P.pattern ep (pattern_right g.sorts p P.kids (are_kids g.sorts p.kids P.kids head.of_kids) p.items patterns (pieces_right items));
         }
       where
-        pieces_right : After Right [] p.items → Every (λ pieces. flat_map (piece_faults p) pieces ≡ []) (flat_map pattern_of p.items)
-        pieces_right h =
-            every_flat (λ pieces. flat_map (piece_faults p) pieces ≡ []) pattern_of p.items (every_of_after (λ i. Every (λ pieces. flat_map (piece_faults p) pieces ≡ []) (pattern_of i)) [] p.items (after_from p.items Right (λ b i. Every (λ pieces. flat_map (piece_faults p) pieces ≡ []) (pattern_of i)) (λ b i rest w k. k.pieces) [] p.items refl h))
-
         same_equation : (r' : RawEquation) (q : Equation) → IsNumbered r' q → RightEquation r' → is_equation_right sorts prods P q ≡ true
         same_equation r' q n h =
             let found = right_named g sorts r.named p P head prods made r' h in
@@ -176,12 +175,12 @@ module _ (g : RawGrammar) (sorts : List Sort) where
         let items = after_of_whole (λ b i. item_faults g p b i ≡ []) [] p.items p.items refl (λ b i rest w. item_faultless g sorts r.named p P head prods made b i rest w (one_item right once pieces b i rest w)) in
         empty_both (each_after (item_faults g p) [] p.items) (missing g.sorts p) (after_none (item_faults g p) [] p.items items) (none_missing g sorts r.named p P head prods made r.attrs once)
       where
-        one_item : Every RightEquation raw_all → Every (IsOnce g sorts r.named p P head prods made r.attrs) (places_of g.sorts p) → Every (λ pieces. flat_map (piece_faults p) pieces ≡ []) (flat_map pattern_of p.items) → (b : List RawItem) (i : RawItem) (rest : List RawItem) → b ++ i ∷ rest ≡ p.items → Right b i
+        one_item : Every RightEquation raw_all → Every (IsOnce g sorts r.named p P head prods made r.attrs) (places_of g.sorts p) → Every AreKids (flat_map pattern_of p.items) → (b : List RawItem) (i : RawItem) (rest : List RawItem) → b ++ i ∷ rest ≡ p.items → Right b i
         one_item right once pieces b i rest w =
             let both = once_item g sorts r.named p P head prods made r.attrs once right b i rest w in
             record {
               each = every_middle (λ i. Every RightEquation (raw_equations i)) b i rest (subst (Every (λ i. Every RightEquation (raw_equations i))) (sym w) (every_of_flat RightEquation raw_equations p.items right));
               new = both.0;
               defines_left = both.1;
-              pieces = every_middle (λ i. Every (λ pieces. flat_map (piece_faults p) pieces ≡ []) (pattern_of i)) b i rest (subst (Every (λ i. Every (λ pieces. flat_map (piece_faults p) pieces ≡ []) (pattern_of i))) (sym w) (every_of_flat (λ pieces. flat_map (piece_faults p) pieces ≡ []) pattern_of p.items pieces));
+              pieces = every_middle (λ i. Every AreKids (pattern_of i)) b i rest (subst (Every (λ i. Every AreKids (pattern_of i))) (sym w) (every_of_flat AreKids pattern_of p.items pieces));
             }

@@ -1,11 +1,10 @@
 -- Sorts as they are written and by number: their kinds, their attributes and their faults.
-use Rattle.std.proofs.Common.{◌≡◌, ℕ, zero, suc, ◌<◌, Bool, true, false, not, ◌&&◌, ◌⊎◌, inl, inr, cond, List, [], ◌∷◌, ◌++◌, map, length, slice_get, find, position, Option, Some, None, nat_eq, nat_lt, bytes_eq, is_none, refl, sym, ap, ap₂, ◌∙◌, subst, arith, lt-ltb}
-use Rattle.std.specs.Prelude.{option_map, option_and_then, ⊤}
-use Rattle.std.specs.Option.{option_map_or}
-use Rattle.std.specs.Bool.{one_answer, Decides}
-use Rattle.std.specs.List.{list_any, list_all}
+use Rattle.std.proofs.Common.{◌≡◌, ℕ, ◌<◌, true, false, List, [], ◌∷◌, map, length, slice_get, Option, Some, None, nat_eq, bytes_eq, is_none, refl, sym, ap, ◌∙◌, subst, lt-ltb}
+use Rattle.std.specs.Prelude.{option_map}
+use Rattle.std.specs.Bool.{one_answer}
+use Rattle.std.specs.List.{list_all}
 use Rattle.std.specs.Cmp.Lexicographic.{bytes_decides}
-use Rattle.std.proofs.lemmas.Bool.{cases_Bool, and_parts, and_from, or_parts}
+use Rattle.std.proofs.lemmas.Bool.{and_parts, and_from}
 use Rattle.std.proofs.lemmas.Bool.Decides.{Decides-eqb}
 use Rattle.std.proofs.lemmas.Option.{slice_get_within}
 use Rattle.lrc_base.specs.declared.grammar.Kind.{Kind}
@@ -19,9 +18,9 @@ use Rattle.lrc_base.specs.declared.raw.RawSort.{RawSort}
 use Rattle.lrc_meaning.specs.Tree.{same_kind}
 use Rattle.lrc_meaning.specs.Grammar.{attrs_of_sort, attrs_of, all_distinct, is_known, is_sort_right}
 use Rattle.lrc_meaning.specs.Naming.{each_some, sort_number, named_kind, named_attr, named_sort}
-use Rattle.lrc_faults.specs.Faults.{Name, Fault, fault, unknown, twice, where_true, is_among, kind_faults, attr_faults, sort_faults, attrs_in, attrs_named, attrs_of_kind, same_kind as same_raw_kind, each_after}
-use Rattle.lrc_named.proofs.Lists.{number, number_at, position-number, Every, every_passes, all_pass, Each, each_from, each_right, each_left, each_map, every_has, each_named, named_each, Names, FoundAt, absent, there, found_at, empty_parts, empty_both, none_where, where_none, After, none_after, after_none, after_from, after_both, every_of_after, after_of_every, every_from, each_gives, each_gives_right, empty_each, each_empty}
-use Rattle.lrc_named.proofs.Names.{same_name, own_name, names_swap, IsNew, new_distinct, distinct_new}
+use Rattle.lrc_faults.specs.Faults.{Name, Fault, fault, unknown, twice, where_true, is_among, kind_faults, attr_faults, sort_faults, attrs_named, attrs_of_kind, same_kind as same_raw_kind, each_after}
+use Rattle.lrc_named.proofs.Lists.{number_at, position-number, Every, every_passes, all_pass, Each, each_from, each_right, each_left, each_map, every_has, each_named, named_each, Names, FoundAt, absent, there, found_at, empty_parts, empty_both, none_where, where_none, none_after, after_none, after_from, after_both, every_of_after, after_of_every, every_from, each_gives, each_gives_right}
+use Rattle.lrc_named.proofs.Names.{same_name, IsNew, new_distinct, distinct_new}
 
 -- the attributes of a sort have names of their own
 abbrev pub AreDistinct : RawSort → Type 0
