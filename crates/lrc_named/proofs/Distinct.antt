@@ -3,7 +3,7 @@ use Rattle.std.proofs.Common.{◌≡◌, ℕ, zero, suc, Bool, true, false, not,
 use Rattle.std.specs.Prelude.{option_map}
 use Rattle.std.specs.Bool.{one_answer}
 use Rattle.std.specs.List.{list_any}
-use Rattle.std.proofs.lemmas.Bool.{and_parts, and_from, or_parts, or_left, or_right, not-true, false_from_ne_true, both_ways}
+use Rattle.std.proofs.lemmas.Bool.{and_parts, or_parts, or_left, or_right, not-true, false_from_ne_true, both_ways}
 use Rattle.std.proofs.lemmas.Bool.Decides.{Decides-eqb}
 use Rattle.std.proofs.lemmas.List.Folds.{list_any-append}
 use Rattle.lrc_base.specs.declared.raw.RawKind.{RawKind}
@@ -34,13 +34,6 @@ one_target s t e = by s.owner t.owner s.name t.name e
     by (Some c) (Some d) m n e =
         let parts = and_parts (bytes_eq c d) (bytes_eq m n) e in
         ap₂ (λ c m. record { owner = Some c; name = m }) (same_name c d parts.0) (same_name m n parts.1)
-
-pub own_target : (t : Target) → same_target t t ≡ true
-own_target t = by t.owner
-  where
-    by : (o : Option Name) → (same_owner o o && bytes_eq t.name t.name) ≡ true
-    by None = own_name t.name
-    by (Some c) = and_from (bytes_eq c c) (bytes_eq t.name t.name) (own_name c) (own_name t.name)
 
 -- ---- the number of a target is that of one place alone
 

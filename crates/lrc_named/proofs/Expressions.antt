@@ -18,7 +18,7 @@ use Rattle.lrc_base.specs.declared.raw.RawAttr.{RawAttr}
 use Rattle.lrc_base.specs.declared.raw.RawKid.{RawKid}
 use Rattle.lrc_base.specs.declared.raw.RawProd.{RawProd}
 use Rattle.lrc_base.specs.declared.raw.RawGrammar.{RawGrammar}
-use Rattle.lrc_base.specs.declared.raw.RawExpr.{RawExpr, RawExpr-F, ind-RawExpr, roll-RawExpr, fold-roll-RawExpr}
+use Rattle.lrc_base.specs.declared.raw.RawExpr.{RawExpr, RawExpr-F, ind-RawExpr, map-RawExpr, roll-RawExpr, fold-roll-RawExpr}
 use Rattle.lrc_base.specs.declared.raw.RawExpr.TheVariants as v
 use Rattle.lrc_meaning.specs.Tree.{same_kind}
 use Rattle.lrc_meaning.specs.Grammar.{Occurrence, occurrences_of, of_kind as kind_if, common_kind, operated_kind, expression_kind, have_kinds}
@@ -26,7 +26,7 @@ use Rattle.lrc_meaning.specs.Expression.{Expression, expression, Expressions, ex
 use Rattle.lrc_meaning.specs.Naming.{Known, named_kind, named_sort, named_expr, or_leaf, each_some}
 use Rattle.lrc_meaning.proofs.ExpressionLemmas.{expression-Int, expression-Bool, expression-Name, expression-Occ, expression-Leaf, expression-Op, expression-If, expression-Make}
 use Rattle.lrc_naming.proofs.NamingLemmas.{named_expr-Int, named_expr-Bool, named_expr-Name, named_expr-One, named_expr-Two, named_expr-Op, named_expr-If, named_expr-Make}
-use Rattle.lrc_faults.specs.Faults.{Name, Fault, fault, fault_of, unknown, not_normal, attr_in_sort, Means, nothing, left_attr, leaf, symbol, value, tree, means, symbol_sort, is_nothing, Found, at_fault, of_kind, behind, same_kind as same_raw_kind, read_alone, read_attr, read_of, checked, both_are_numbers, operated, operation, choice, is_right, are_right, constructed, found_step, found_of}
+use Rattle.lrc_faults.specs.Faults.{Name, Target, Fault, fault, fault_of, unknown, not_normal, attr_in_sort, Means, nothing, left_attr, leaf, symbol, value, tree, means, symbol_sort, is_nothing, Found, at_fault, of_kind, behind, same_kind as same_raw_kind, read_alone, read_attr, read_of, checked, both_are_numbers, operated, operation, choice, are_right, constructed, found_step, found_of}
 use Rattle.lrc_faults.proofs.FaultLemmas.{found_of-Int, found_of-Bool, found_of-One, found_of-Two, found_of-Op}
 use Rattle.lrc_named.proofs.Lists.{number, position-number, Every, Each, Names, FoundAt, absent, there, found_at}
 use Rattle.lrc_named.proofs.Sorts.{IsKind, same_kinds}
@@ -56,7 +56,7 @@ module _ (P : RawExpr → Type 0) where
     pub at_make : (n : List ℕ) (args : List RawExpr) → Every P args → P (v.Make n args)
 
   module _ (steps : Steps) where
-    of_layer : (y : RawExpr-F Proved) → P (roll-RawExpr (Rattle.lrc_base.specs.declared.raw.RawExpr.map-RawExpr Proved RawExpr (λ a. a.0) y))
+    of_layer : (y : RawExpr-F Proved) → P (roll-RawExpr (map-RawExpr Proved RawExpr (λ a. a.0) y))
     of_layer (RawExpr-F.Int i) = subst P (sym (v.rolls-Int i)) (steps.at_int i)
     of_layer (RawExpr-F.Bool b) = subst P (sym (v.rolls-Bool b)) (steps.at_bool b)
     of_layer (RawExpr-F.Name n) = subst P (sym (v.rolls-Name n)) (steps.at_name n)
@@ -159,7 +159,7 @@ module _ (g : RawGrammar) (sorts : List Sort) (named : Each (Names (named_sort g
   abbrev occurrences : List Occurrence
   occurrences = occurrences_of sorts P
 
-  abbrev FoundFor : Rattle.lrc_faults.specs.Faults.Target → Type 0
+  abbrev FoundFor : Target → Type 0
   FoundFor t = FoundAt (Stands g.sorts) (is_at t) places occurrences
 
   -- an occurrence of this number agrees with its place

@@ -15,7 +15,7 @@ use Rattle.lrc_faults.specs.Faults.{Name, is_among, attrs_named, attrs_of_kind, 
 use Rattle.lrc_named.proofs.Lists.{Every}
 use Rattle.lrc_named.proofs.Names.{own_name, Parted, distinct_parts, flat_map_single, called, name_among, name_absent}
 use Rattle.lrc_named.proofs.Heads.{declared_in, own_names}
-use Rattle.lrc_named.proofs.Places.{Place, own_place, symbol_place, value_place, kid_places, declared_places, places_of, is_at, target_at, head_at, Apart, HeadAmong, apart_both, heads_among, apart_flat, found_in, find_flat}
+use Rattle.lrc_named.proofs.Places.{Place, own_place, symbol_place, value_place, kid_places, declared_places, places_of, is_at, head_of, head_at, found_in, find_flat}
 
 abbrev pub alone : Name → Target
 alone n = record { owner = None; name = n }
@@ -91,7 +91,7 @@ module _ (raw : List RawSort) (p : RawProd) (distinct : all_distinct (own_names 
   three_found t a k d =
       option_or (found_in attr_name own_group under_own t a) (option_or (found_in kid_name (kid_places raw) under_kid t k) (found_in declared_name (declared_places raw) under_declared t d))
 
-  find_places : (t : Target) (n : Name) → Rattle.lrc_named.proofs.Places.head_of t.owner t.name ≡ n → find (is_at t) (places_of raw p) ≡ three_found t (left_found n) (kid_found n) (declared_found n)
+  find_places : (t : Target) (n : Name) → head_of t.owner t.name ≡ n → find (is_at t) (places_of raw p) ≡ three_found t (left_found n) (kid_found n) (declared_found n)
   find_places t n e =
       find-append (is_at t) (map own_place (attrs_named raw p.left)) (flat_map (kid_places raw) p.kids ++ flat_map (declared_places raw) (declared_in p.items))
       ∙ ap₂ option_or (ap (find (is_at t)) (sym (flat_map_single own_place (attrs_named raw p.left))) ∙ (find_flat attr_name own_group under_own t (attrs_named raw p.left) lefts.front ∙ ap (λ m. found_in attr_name own_group under_own t (left_found m)) e)) (find-append (is_at t) (flat_map (kid_places raw) p.kids) (flat_map (declared_places raw) (declared_in p.items))

@@ -19,7 +19,7 @@ use Rattle.lrc_base.specs.declared.raw.RawProd.{RawProd}
 use Rattle.lrc_meaning.specs.Tree.{is_sort}
 use Rattle.lrc_meaning.specs.Grammar.{attrs_of_sort, attrs_of, Occurrence, own_occurrence, symbol_occurrence, extra_occurrences, occurrences_of, leaf_kind, all_distinct}
 use Rattle.lrc_meaning.specs.Naming.{named_kind, named_sort, Called, called_own, called_of, called_extra, called_occurrences, is_called, occurrence_number, leaf_number}
-use Rattle.lrc_faults.specs.Faults.{Name, is_among, attrs_named, attrs_of_kind, kid_names, Declared, local, attached, declared_name, Means, nothing, left_attr, leaf, symbol, value, tree, means, left_or_other, kid_or_declared, Target}
+use Rattle.lrc_faults.specs.Faults.{Name, is_among, attrs_named, attrs_of_kind, kid_names, Declared, local, attached, declared_name, Means, nothing, left_attr, leaf, symbol, value, tree, means, left_or_other, kid_means, kid_or_declared, Target}
 use Rattle.lrc_named.proofs.Lists.{number, number-map, number_each, position-number, Each, each_both, each_mapped, each_flat, each_is, Names, FoundAt, absent, there, found_at}
 use Rattle.lrc_named.proofs.Names.{same_name, distinct_parts, called, name_absent}
 use Rattle.lrc_named.proofs.Sorts.{IsKind, IsAttr, is_given, is_that_sort, attrs_at, attrs_at_kind}
@@ -189,7 +189,7 @@ module _ (raw : List RawSort) (sorts : List Sort) (named : Each (Names (named_so
       found : find (raw_leaf n) p.kids ≡ if_leaf (find (kid_named n) p.kids)
       found = leaf_found n p.kids distinct_kids
 
-      by_kid : (a : RawKid) (kind : RawKind) → a.kind ≡ kind → find (kid_named n) p.kids ≡ Some a → LeafAt n (Rattle.lrc_faults.specs.Faults.kid_means a kind)
+      by_kid : (a : RawKid) (kind : RawKind) → a.kind ≡ kind → find (kid_named n) p.kids ≡ Some a → LeafAt n (kid_means a kind)
       by_kid a rk.Int e is = subst (IsLeaf n) e (leaf_there n a (leaf_either n) (found ∙ rw (is, e) refl) (rw e refl))
       by_kid a rk.Bool e is = subst (IsLeaf n) e (leaf_there n a (leaf_either n) (found ∙ rw (is, e) refl) (rw e refl))
       by_kid a rk.Name e is = subst (IsLeaf n) e (leaf_there n a (leaf_either n) (found ∙ rw (is, e) refl) (rw e refl))

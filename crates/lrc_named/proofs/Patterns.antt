@@ -20,7 +20,7 @@ use Rattle.lrc_base.specs.declared.raw.RawProd.{RawProd}
 use Rattle.lrc_meaning.specs.Grammar.{is_piece_right}
 use Rattle.lrc_meaning.specs.Naming.{each_some, kid_number, named_piece, pattern_of, only_pattern, named_pattern}
 use Rattle.lrc_faults.specs.Faults.{Name, fault, unknown, is_among, kid_names, is_pattern, piece_faults}
-use Rattle.lrc_named.proofs.Lists.{number, number_at, number_any, any_number, position-number, Every, every_from, all_pass, Each, each_map, each_gives, every_has, each_named, named_each, Names, none_where, where_none, After, empty_each, each_empty}
+use Rattle.lrc_named.proofs.Lists.{number_at, number_any, any_number, position-number, Every, every_from, all_pass, Each, each_map, each_gives, each_gives_right, every_has, each_named, named_each, Names, none_where, where_none, After, empty_each, each_empty}
 use Rattle.lrc_named.proofs.Names.{any_named}
 use Rattle.lrc_named.proofs.Heads.{IsKid}
 
@@ -156,7 +156,7 @@ module _ (raw : List RawSort) (p : RawProd) (kids : List Kid) (are : Each (IsKid
 
   pieces_right : (P : Production) → P.kids ≡ kids → (pieces : List RawPiece) (qs : List Piece) → Each (Names (named_piece kids)) pieces qs → list_all (is_piece_right P) qs ≡ true
   pieces_right P same pieces qs h =
-      all_pass (is_piece_right P) qs (Rattle.lrc_named.proofs.Lists.each_gives_right (Names (named_piece kids)) (λ q. is_piece_right P q ≡ true) (piece_right P same) pieces qs h)
+      all_pass (is_piece_right P) qs (each_gives_right (Names (named_piece kids)) (λ q. is_piece_right P q ≡ true) (piece_right P same) pieces qs h)
 
   pub pattern_right : (items : List RawItem) → After IsFirstPattern [] items → Every AreRight (flat_map pattern_of items) → PatternOf items
   pattern_right items first right = by (flat_map pattern_of items) refl (one_pattern [] items first).1 right
