@@ -35,6 +35,7 @@ standing shelf outcomes missed = record {
   memo = Some (pairs shelf.cells shelf.cells outcomes);
   seen = Some shelf.cells;
   missed = missed;
+  identity = [];
 }
 
 -- the handle that is kept for a handle, or 0

@@ -2,7 +2,7 @@ use Rattle.std.proofs.Common.{length, sym, ap, ◌∙◌}
 use Rattle.std.specs.Option.{option_map, option_copied}
 use Rattle.lrc_meaning.specs.Tree.{tree, at_place}
 use Rattle.lrc_edit.proofs.PlaceLemmas.{below_at_place}
-use Rattle.lrc_edit.proofs.replacing.replaced.Goals as goal
+use Rattle.lrc_edit.proofs.replacing.replace.Goals as goal
 
 pub kind_of-requires : goal.kind_of-requires
 kind_of-requires c =
