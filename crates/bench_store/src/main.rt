@@ -9,7 +9,8 @@ use numbers::put_numbers;
 use std::process::ExitCode;
 use std::{env, io};
 
-/// The words are a number of items, from 1 to 8,388,608, and a number of rounds.
+/// The words are a number of items, from 1 to 8,388,608, and a number of rounds. The status is 2 where
+/// they are not, and 6 where the store is full.
 fn main(rt: HostRuntime) -> io::Result<ExitCode> {
     let words: Vec<String> = env::args(&rt)?.collect(rt.alloc())?;
     let [_program, items, rounds] = words.as_slice() else {
