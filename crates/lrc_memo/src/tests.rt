@@ -2,11 +2,12 @@ ghost use Rattle.std.specs.Prelude.{◌≡◌, IfOk, IsTrue};
 ghost use Rattle.lrc_store.specs.Cells.{number};
 ghost use Rattle.lrc_store.specs.Standing.{Stands, IsKnown};
 ghost use Rattle.lrc_store.specs.Words.{Keeps};
+ghost use Rattle.lrc_table.specs.Passes.{IsOf};
 ghost use Rattle.lrc_memo.specs.Shared.{shared_standing};
 
 use crate::SharedStore;
 use lrc_store::{Full, Handle, Meaning, Recall, Store};
-use lrc_table::Table;
+use lrc_table::{Pass, Table};
 use std::test::Fail;
 
 /// A meaning that gives each call's own cell, but for nil, as its result.
@@ -49,10 +50,29 @@ fn two_numbers<S: Store>(store: &mut S, one: i64, other: i64) -> Result<(Handle,
     Ok((first, second))
 }
 
+/// Puts two cells, over any store: the store that comes back is over the same table.
+fn put_two<S: Store>(store: &mut S) -> Result<Handle, Full>
+    ensures same_identity { (S.state store.new).identity ≡ (S.state store.old).identity }
+    ensures same_meaning { S.meaning store.new ≡ S.meaning store.old }
+{
+    let one = store.int(1)?;
+    store.cell(3, one, one)
+}
+
+/// The pass of a table comes back from code over any store as a pass of this table.
+fn pass_back<M: Meaning>(table: &Table<M>, pass: Pass<M>) -> (Result<Handle, Full>, Pass<M>)
+    requires { IsOf pass table.now }
+    ensures { IsOf result.1 table.now }
+{
+    let mut store = SharedStore::new(table, pass);
+    let answer = put_two(&mut store);
+    (answer, store.into_pass())
+}
+
 /// Remembers a number as its own result.
 fn remember_itself(store: &mut SharedStore<OwnCell>, call: Handle, value: i64)
-    requires { Stands (shared_standing store.old.pass.view store.old.missed) call.0 (number value) }
-    ensures { Keeps (shared_standing store.old.pass.view store.old.missed) (shared_standing store.new.pass.view store.new.missed) }
+    requires { Stands (shared_standing store.old) call.0 (number value) }
+    ensures { Keeps (shared_standing store.old) (shared_standing store.new) }
 {
     store.remember(call, call);
 }
@@ -81,6 +101,15 @@ fn generic_code_runs_over_it(rt: HostRuntime) -> Result<(), Fail> {
     assert!(rt; refused && store.published() == 2);
     let pass = store.into_pass();
     assert!(rt; pass.published() == 2 && table.memo_words() == 3);
+    Ok(())
+}
+
+#[test]
+fn a_pass_comes_back_of_its_own_table(rt: HostRuntime) -> Result<(), Fail> {
+    let (table, pass) = Table::new(rt.alloc(), OwnCell, 1, 2, 3)?;
+    let (answer, pass) = pass_back(&table, pass);
+    let (again, pass) = pass_back(&table, pass);
+    assert!(rt; answer.is_ok() && again.is_ok() && pass.published() == 2);
     Ok(())
 }
 

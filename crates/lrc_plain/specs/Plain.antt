@@ -35,6 +35,7 @@ standing shelf outcomes missed = record {
   memo = Some (pairs shelf.cells shelf.cells outcomes);
   seen = Some shelf.cells;
   missed = missed;
+  identity = [];
 }
 
 abbrev pub state_of : {M : Type 0} → Plain M → Standing
