@@ -3,6 +3,7 @@ ghost use Rattle.lrc_meaning.specs.Grammar.{is_well_formed};
 ghost use Rattle.lrc_grammar.specs.Limits.{keeps_limits};
 
 use crate::checks::is_well_formed;
+use crate::copies::{copied_productions, copied_sorts};
 use crate::limits::keeps_limits;
 use crate::plain::{are_productions_plain, are_sorts_plain};
 use lrc_base::{List, Memory, Production, Sort};
@@ -43,6 +44,23 @@ impl Grammar {
             }));
         }
         Ok(None)
+    }
+
+    /// An equal grammar, with memory of its own.
+    ///
+    /// # Errors
+    ///
+    /// Want of memory.
+    pub fn copy(&self, alloc: Global) -> Result<Grammar, Memory>
+        ensures { IfOk result (λ copy. grammar_of copy ≡ grammar_of self.now) }
+    {
+        let sorts = copied_sorts(alloc, self.sorts.as_slice())?;
+        let prods = copied_productions(alloc, self.prods.as_slice())?;
+        Ok(Grammar {
+            sorts,
+            prods,
+            start: self.start,
+        })
     }
 
     /// Whether the grammar is plain: each attribute is a synthesised number, there are no locals and

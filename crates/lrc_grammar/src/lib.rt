@@ -2,6 +2,7 @@
 #![tactic(auto)]
 
 mod checks;
+mod copies;
 mod fitting;
 mod grammar;
 mod kinds;

@@ -108,3 +108,16 @@ fn each_attribute_is_an_occurrence(rt: HostRuntime) -> Result<(), Fail> {
     assert_eq!(rt; occurrences.len(), 3);
     Ok(())
 }
+
+#[test]
+fn a_copy_is_equal(rt: HostRuntime) -> Result<(), Fail> {
+    let alloc = rt.alloc();
+    let sorts = List::from_vec(vec![in alloc; exp(alloc)?]?);
+    let prods = List::from_vec(vec![in alloc; num(alloc)?, add(alloc)?]?);
+    let grammar = Grammar::new(alloc, sorts, prods, 0)?.ok_or("not well formed")?;
+    let copy = grammar.copy(alloc)?;
+    let shown = format!(in alloc; "{copy:?}")?;
+    let wanted = format!(in alloc; "{grammar:?}")?;
+    assert_eq!(rt; shown.as_str(), wanted.as_str());
+    Ok(())
+}

@@ -18,11 +18,11 @@ use Rattle.lrc_memo.proofs.Missing.{stays_with}
 call-of : (call outcome word : ℕ) → outcome < 2 ^ 32 → word ≡ pair_word call outcome → word / 2 ^ 32 ≡ call
 call-of call outcome word small e = ap (λ n. n / 2 ^ 32) e ∙ div-mul-add call (2 ^ 32) outcome small
 
-pub names_not-zero : (call word : ℕ) → word ≡ 0 → NamesNot call word
-names_not-zero call word e outcome some small h = omega (arith, e, some, h)
+pub names_not_zero : (call word : ℕ) → word ≡ 0 → NamesNot call word
+names_not_zero call word e outcome some small h = omega (arith, e, some, h)
 
-pub names_not-other : (call word : ℕ) → word / 2 ^ 32 ≢ call → NamesNot call word
-names_not-other call word n outcome some small h = n (call-of call outcome word small h)
+pub names_not_other : (call word : ℕ) → word / 2 ^ 32 ≢ call → NamesNot call word
+names_not_other call word n outcome some small h = n (call-of call outcome word small h)
 
 -- ---- nothing is found
 

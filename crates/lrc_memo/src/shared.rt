@@ -36,15 +36,18 @@ impl<'a, M: Meaning> Model for SharedStore<'a, M> {
 }
 
 /// The result that the word pairs with the call.
+#[tactic(auto, using(crate::proofs::Recalling::names_not_zero, crate::proofs::Recalling::names_not_other))]
 fn outcome_in(word: u64, call: Handle) -> Option<Handle>
     ensures { MatchOption result (NamesNot call.0 word) (λ handle. Names call.0 handle.0 word) }
 {
-    let outcome = word % (1 << 32);
-    if word != 0 && word / (1 << 32) == u64::from(call.0) {
-        Some(Handle(outcome as u32))
-    } else {
-        None
+    if word == 0 {
+        return None;
     }
+    if word / (1 << 32) != u64::from(call.0) {
+        return None;
+    }
+    let outcome = word % (1 << 32);
+    Some(Handle(outcome as u32))
 }
 
 impl<'a, M: Meaning> SharedStore<'a, M> {
@@ -103,8 +106,8 @@ impl<'a, M: Meaning> SharedStore<'a, M> {
         ensures word { IsKnownWord (M.allows self.old.table.meaning) (M.reach self.old.table.meaning) (standing self.new.pass.view) result }
         ensures same_table { self.new.table ≡ self.old.table }
     {
-        self.pass
-            .load_memo(self.table, place(call, self.table.memo_words()))
+        let words = self.table.memo_words();
+        self.pass.load_memo(self.table, place(call, words))
     }
 }
 

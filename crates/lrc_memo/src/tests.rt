@@ -9,6 +9,7 @@ use crate::SharedStore;
 use lrc_store::{Full, Handle, Meaning, Recall, Store};
 use lrc_table::{Pass, Table};
 use std::test::Fail;
+use std::thread::join;
 
 /// A meaning that gives each call's own cell, but for nil, as its result.
 #[derive(Drop)]
@@ -72,9 +73,41 @@ fn pass_back<M: Meaning>(table: &Table<M>, pass: Pass<M>) -> (Result<Handle, Ful
 /// Remembers a number as its own result.
 fn remember_itself(store: &mut SharedStore<OwnCell>, call: Handle, value: i64)
     requires { Stands (shared_standing store.old) call.0 (number value) }
-    ensures { Keeps (shared_standing store.old) (shared_standing store.new) }
+    ensures keeps { Keeps (shared_standing store.old) (shared_standing store.new) }
+    ensures same_table { store.new.table ≡ store.old.table }
 {
     store.remember(call, call);
+}
+
+/// Puts the first numbers, remembers each, recalls it and clears a place, by a pass that is given
+/// back. The answer is whether there were rows for all, and no other result was found.
+fn take_turns(table: &Table<OwnCell>, pass: Pass<OwnCell>, count: u32) -> (bool, Pass<OwnCell>)
+    requires { IsOf pass table.now }
+    ensures { IsOf result.1 table.now }
+{
+    let mut store = SharedStore::new(table, pass);
+    let mut right = true;
+    for value in 0..count {
+        right = take_turn(&mut store, i64::from(value)) && right;
+    }
+    (right, store.into_pass())
+}
+
+/// Puts a number, remembers it, recalls it and clears a place: whether there was a row for it, and no
+/// other result was found.
+fn take_turn(store: &mut SharedStore<OwnCell>, value: i64) -> bool
+    ensures { store.new.table ≡ store.old.table }
+{
+    let Ok(handle) = store.int(value) else {
+        return false;
+    };
+    remember_itself(store, handle, value);
+    let right = match store.recall(handle) {
+        Recall::Found(found) => found == handle,
+        Recall::Missed(_) => true,
+    };
+    store.evict(value.cast_unsigned());
+    right
 }
 
 fn is_found(answer: Recall, handle: Handle) -> bool {
@@ -129,5 +162,29 @@ fn a_memo_word_is_overwritten(rt: HostRuntime) -> Result<(), Fail> {
     let forgotten = is_missed(store.recall(six), 0);
     assert!(rt; found && overwritten && forgotten);
     assert_eq!(rt; store.missed(), 2);
+    Ok(())
+}
+
+#[test]
+fn two_threads_remember_and_evict(rt: HostRuntime) -> Result<(), Fail> {
+    const COUNT: u32 = 20_000;
+    let (table, mut pass) = Table::new(rt.alloc(), OwnCell, 2, COUNT, 3)?;
+    let other = pass.split(&table, COUNT);
+    let shared = &table;
+    let ((right, mut pass), (right_too, other)) = join(
+        &rt,
+        move || -> (bool, Pass<OwnCell>)
+            requires { IsOf pass shared.now }
+            ensures { IsOf result.1 shared.entry.now }
+        { take_turns(shared, pass, COUNT) },
+        move || -> (bool, Pass<OwnCell>)
+            requires { IsOf other shared.now }
+            ensures { IsOf result.1 shared.entry.now }
+        { take_turns(shared, other, COUNT) },
+    );
+    assert!(rt; right && right_too);
+    let made = u64::from(pass.published()) + u64::from(other.published());
+    assert_eq!(rt; made, u64::from(COUNT));
+    pass.meet(&table, other);
     Ok(())
 }

@@ -1,0 +1,4 @@
+pub mod Verdict
+pub mod Declares
+pub mod Meaning
+pub mod Within

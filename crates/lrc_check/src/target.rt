@@ -1,0 +1,41 @@
+ghost use Rattle.std.specs.Prelude.{◌≡◌};
+ghost use Rattle.lrc_meaning.specs.Naming.{same_owner};
+ghost use Rattle.lrc_faults.specs.Faults.{same_target};
+
+use lrc_base::NameText;
+use std::marker::Model;
+
+/// The target of an equation: an attribute of a symbol, or of the left side where no symbol is told,
+/// or a local or nonterminal attribute.
+#[derive(Debug, Drop)]
+pub struct Target {
+    pub owner: Option<NameText>,
+    pub name: NameText,
+}
+
+impl Model for Target {
+    ghost use Rattle.lrc_faults.specs.Faults as faults;
+
+    ghost Value = { faults.Target };
+
+    ghost view = { λ t. record { owner = t.owner; name = t.name } };
+}
+
+fn same_owner(left: Option<NameText>, right: Option<NameText>) -> bool
+    ensures { result ≡ same_owner left right }
+{
+    match (left, right) {
+        (None, None) => true,
+        (Some(a), Some(b)) => a == b,
+        (None, Some(_)) | (Some(_), None) => false,
+    }
+}
+
+impl Target {
+    /// Whether the target has this symbol and this name.
+    pub fn is(&self, owner: Option<NameText>, name: NameText) -> bool
+        ensures { result ≡ same_target self.now (record { owner = owner; name = name }) }
+    {
+        same_owner(self.owner, owner) && self.name == name
+    }
+}
