@@ -13,6 +13,8 @@ pub mod Places
 pub mod LoopPlaces
 pub mod Full
 pub mod Deep
+pub mod Staged
+pub mod Levels
 pub mod Verdict
 pub mod SumSteps
 pub mod SumProofs
