@@ -11,9 +11,10 @@ pub mod Grow
 pub mod TameRich
 pub mod Places
 pub mod LoopPlaces
+pub mod Reached
 pub mod Full
-pub mod Deep
 pub mod Staged
+pub mod Deep
 pub mod Levels
 pub mod Verdict
 pub mod SumSteps

@@ -80,11 +80,6 @@ module _ {T : Type 0} where
   Nested body zero = body Nothing
   Nested body (suc depth) = body (Nested body depth)
 
-  -- at most `levels` bodies within one another; what stands within may hang on a value that goes along, as a count so far
-  unfoldable pub Levels : {Q A : Type 0} → ((Q → Lang T A) → Q → Lang T A) → ℕ → Q → Lang T A
-  Levels body zero q = Nothing
-  Levels body (suc levels) q = body (Levels body levels) q
-
 -- Tokens without a value are told by their kind, a number.
 module _ {T : Type 0} (kind : T → ℕ) where
   -- one token of the kind
