@@ -22,7 +22,6 @@ unset h = true_not_false false h refl
 
 module _ {I T Q A : Type 0} (kind : T → ℕ) (le : I → I → Type 0) (wide : Widening le) (s : Shape) (filled : s.empty ≡ false)
     (body : I → (Q → Limited T A) → Q → Limited T A) (read : I → (Q → List T → Reading T A) → Q → List T → Reading T A)
-    (grow : (i j : I) → le i j → (L M : Q → Limited T A) → ((q : Q) → Sub (L q).derives (M q).derives) → (q : Q) → Sub (body i L q).derives (body j M q).derives)
     (base : (q : Q) → (i : I) × (u : List T) × (x : A) × (body i (λ _. Beyond nested) q).derives u x)
     (full : (o p : Bool) (N : I × ℕ → Q → Limited T A) (a : I × ℕ → Q → List T → Reading T A) (j : I × ℕ) →
     ((q : Q) → Staged kind (Deeper le) o false p s (λ k. N k q) (λ k. a k q) j) →
@@ -47,13 +46,6 @@ module _ {I T Q A : Type 0} (kind : T → ℕ) (le : I → I → Type 0) (wide :
   abbrev reads_deep : Q → I × ℕ → List T → Reading T A
   reads_deep q j = read j.0 (read_levels kind (read j.0) s.first j.1) q
 
-  levels_grow : (m n : ℕ) (i j : I) → le i j → m ≤ n → (q : Q) → Sub (Levels (body i) m q).derives (Levels (body j) n q).derives
-  unfolding Levels
-  levels_grow zero n i j l h q u x e = absurd e
-  levels_grow (suc m) zero i j l h q u x e = absurd (omega (arith, h))
-  levels_grow (suc m) (suc n) i j l h q u x e =
-      grow i j l (Levels (body i) m) (Levels (body j) n) (λ r. levels_grow m n i j l (omega (arith, h)) r) q u x e
-
   -- at a number of levels that is the same within all limits
   core : (n : ℕ) (j : I × ℕ) (q : Q) → Staged kind (Deeper le) false false false s (λ k. Levels (body k.0) n q) (λ k. read_levels kind (read k.0) s.first n q) j
   unfolding Levels read_levels
@@ -76,6 +68,61 @@ module _ {I T Q A : Type 0} (kind : T → ℕ) (le : I → I → Type 0) (wide :
         rich_there = λ h. absurd (unset h);
         placed = λ h. absurd (unset h);
       }
+
+  -- one of two, by whether there is a level
+  abbrev first_or : ℕ → Limited T A → Limited T A → Limited T A
+  first_or zero L M = L
+  first_or (suc d) L M = M
+
+  abbrev read_or : ℕ → (List T → Reading T A) → (List T → Reading T A) → List T → Reading T A
+  read_or zero a b = a
+  read_or (suc d) a b = b
+
+  module _ (i j : I) (m n : ℕ) (sub : (q : Q) → Sub (Levels (body i) m q).derives (Levels (body j) n q).derives) where
+    -- two of the languages, with the one in the other
+    abbrev two : I × ℕ → Q → Limited T A
+    two k q = first_or k.1 (Levels (body i) m q) (Levels (body j) n q)
+
+    abbrev reads_two : I × ℕ → Q → List T → Reading T A
+    reads_two k q = read_or k.1 (read_levels kind (read i) s.first m q) (read_levels kind (read j) s.first n q)
+
+    two_exact : (q : Q) (d : ℕ) → Exact kind s (first_or d (Levels (body i) m q) (Levels (body j) n q)).derives (read_or d (read_levels kind (read i) s.first m q) (read_levels kind (read j) s.first n q))
+    two_exact q zero = (core m (i, m) q).exact (i, m)
+    two_exact q (suc d) = (core n (j, n) q).exact (j, n)
+
+    two_reached : (q : Q) (d : ℕ) → Reached (first_or d (Levels (body i) m q) (Levels (body j) n q)) (read_or d (read_levels kind (read i) s.first m q) (read_levels kind (read j) s.first n q))
+    two_reached q zero = (core m (i, m) q).reached (i, m)
+    two_reached q (suc d) = (core n (j, n) q).reached (j, n)
+
+    two_tame : (q : Q) (d : ℕ) → Tame kind s (read_or d (read_levels kind (read i) s.first m q) (read_levels kind (read j) s.first n q))
+    two_tame q zero = (core m (i, m) q).tame (i, m)
+    two_tame q (suc d) = (core n (j, n) q).tame (j, n)
+
+    two_grows : (q : Q) (d f : ℕ) → d ≤ f → Sub (first_or d (Levels (body i) m q) (Levels (body j) n q)).derives (first_or f (Levels (body i) m q) (Levels (body j) n q)).derives
+    two_grows q zero zero h u x e = e
+    two_grows q zero (suc f) h u x e = sub q u x e
+    two_grows q (suc d) zero h u x e = absurd (omega (arith, h))
+    two_grows q (suc d) (suc f) h u x e = e
+
+    two_staged : (k : I × ℕ) (q : Q) → Staged kind (Deeper le) false false false s (λ d. two d q) (λ d. reads_two d q) k
+    two_staged k q = record {
+      exact = λ d. two_exact q d.1;
+      reached = λ d. two_reached q d.1;
+      grows = λ d f l. two_grows q d.1 f.1 l.1;
+      tame = λ d. two_tame q d.1;
+      begins = λ h. absurd (unset h);
+      rich_there = λ h. absurd (unset h);
+      placed = λ h. absurd (unset h);
+    }
+
+    body_grow : le i j → (q : Q) → Sub (body i (Levels (body i) m) q).derives (body j (Levels (body j) n) q).derives
+    body_grow l q = (full false false two reads_two (i, zero) (two_staged (i, zero)) q).grows (i, zero) (j, suc zero) (l, omega arith)
+
+  levels_grow : (m n : ℕ) (i j : I) → le i j → m ≤ n → (q : Q) → Sub (Levels (body i) m q).derives (Levels (body j) n q).derives
+  unfolding Levels
+  levels_grow zero n i j l h q u x e = absurd e
+  levels_grow (suc m) zero i j l h q u x e = absurd (omega (arith, h))
+  levels_grow (suc m) (suc n) i j l h q u x e = body_grow i j m n (λ r. levels_grow m n i j l (omega (arith, h)) r) l q u x e
 
   level_exact : (q : Q) (j : I × ℕ) → Exact kind s (derives_level q j) (reads_level q j)
   level_exact q j = (core j.1 j q).exact j

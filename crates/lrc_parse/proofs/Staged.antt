@@ -1,12 +1,12 @@
 -- Exact readings with a place for each stop, shown in stages, so that what stands within itself can be.
 use Rattle.std.proofs.Common.{◌≡◌, ℕ, ◌<◌, ◌≤◌, ltb, Bool, true, false, cond, Option, Some, None, List, [], ◌∷◌, length, refl, sym, arith, inl, inr}
 use Rattle.std.proofs.lemmas.Bool.{lt-ltb, ltb-true}
-use Rattle.lrc_parse.specs.Kinds.{has, disjoint}
+use Rattle.lrc_parse.specs.Kinds.{has, disjoint, covered}
 use Rattle.lrc_parse.specs.Limited.{Limited, Empty, One, Of, Given, Either, Optional, Within, Loop, Many, Most, Fixed, Skip, Separated, SeparatedMost}
 use Rattle.lrc_parse.specs.Reading.{Cause, expected, Reading, read_empty, read_one, read_of, read_given, read_fixed, read_skip, read_either, read_optional, read_within, read_loop, read_many, read_most, read_separated, read_separated_most}
 use Rattle.lrc_parse.specs.Exact.{Shape, Exact, shape_one, shape_empty, shape_then, shape_either, shape_skip, shape_many}
 use Rattle.lrc_parse.specs.Faults.{Widening, Begins, Grows, Tame, Rich, Placed, Full, Limit}
-use Rattle.lrc_parse.proofs.Sets.{true_not_false}
+use Rattle.lrc_parse.proofs.Sets.{true_not_false, clear_covered}
 use Rattle.lrc_parse.proofs.Same.{pushed, skip_to, skip_from, skip_same, many_to, many_from, many_same, most_to, most_from, most_same, separated_to, separated_from, separated_same, separated_most_to, separated_most_from, separated_most_same}
 use Rattle.lrc_parse.proofs.Parts.{exact_skip, exact_as, exact_empty, exact_one, exact_of, exact_fixed, exact_given, exact_either, exact_within, disjoint_nil}
 use Rattle.lrc_parse.proofs.Loops.{exact_loop}
@@ -61,6 +61,24 @@ module _ {I T : Type 0} (kind : T → ℕ) (le : I → I → Type 0) where
     tame = e.tame;
     begins = e.begins;
     rich_there = λ h _. e.rich_there h refl;
+    placed = e.placed;
+  }
+
+  -- more kinds may go on with a sentence
+  pub staged_more : {A : Type 0} (o r p : Bool) (ks : List ℕ) (s : Shape) (L : I → Limited T A) (read : I → List T → Reading T A) (i : I) → covered s.more ks ≡ true →
+      Staged o r p s L read i → Staged o r p (record { first = s.first; empty = s.empty; more = ks }) L read i
+  staged_more o r p ks s L read i c e = record {
+    exact = λ j. record {
+      sound = (e.exact j).sound;
+      complete = λ q u x m h. (e.exact j).complete q u x m (clear_covered kind s.more ks u c h);
+      first = (e.exact j).first;
+      empty = (e.exact j).empty;
+    };
+    reached = e.reached;
+    grows = e.grows;
+    tame = λ j. record { misses = (e.tame j).misses; passes = (e.tame j).passes };
+    begins = e.begins;
+    rich_there = λ h g. let w : Rich kind s (λ j. (L j).derives) = e.rich_there h g in record { some = w.some; nothing = w.nothing; opens = w.opens };
     placed = e.placed;
   }
 
