@@ -11,8 +11,11 @@ pub mod Grow
 pub mod TameRich
 pub mod Places
 pub mod LoopPlaces
+pub mod Reached
 pub mod Full
+pub mod Staged
 pub mod Deep
+pub mod Levels
 pub mod Verdict
 pub mod SumSteps
 pub mod SumProofs

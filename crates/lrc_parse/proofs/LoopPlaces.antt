@@ -11,7 +11,7 @@ use Rattle.lrc_parse.proofs.Parts.{two_parts}
 use Rattle.lrc_parse.proofs.Loops.{read_loop_end, read_loop_stops, read_loop_more}
 use Rattle.lrc_parse.proofs.Places.{next_behind, starts_next, on_took_stops, stays_wide}
 
-cond_cases_stops : {T A : Type 0} (b : Bool) (o p : Reading T A) (c : Cause) (r : List T) →
+pub cond_cases_stops : {T A : Type 0} (b : Bool) (o p : Reading T A) (c : Cause) (r : List T) →
     cond b o p ≡ stops c r → ((b ≡ true) × (o ≡ stops c r)) ⊎ ((b ≡ false) × (p ≡ stops c r))
 cond_cases_stops true o p c r e = inl (refl, e)
 cond_cases_stops false o p c r e = inr (refl, e)

@@ -2,8 +2,8 @@
 use Rattle.std.proofs.Common.{◌≡◌, ℕ, zero, suc, ◌+◌, ◌<◌, ◌≤◌, ltb, Bool, true, false, cond, List, [], ◌∷◌, ◌++◌, length, refl, sym, ap, ◌∙◌, ◌⊎◌, inl, inr, append_assoc, length-append, arith}
 use Rattle.std.proofs.lemmas.Bool.{lt-ltb, ltb-true}
 use Rattle.lrc_parse.specs.Kinds.{has, disjoint, starts}
-use Rattle.lrc_parse.specs.Language.{Lang, Turns, Loop, Nested, NestedBy, Nothing}
-use Rattle.lrc_parse.specs.Reading.{Cause, nested, Reading, took, stops, on_took, read_turns, read_loop, read_nothing, read_nested, read_nested_by}
+use Rattle.lrc_parse.specs.Language.{Lang, Turns, Loop, Nested, Nothing}
+use Rattle.lrc_parse.specs.Reading.{Cause, nested, Reading, took, stops, on_took, read_turns, read_loop, read_nothing, read_nested}
 use Rattle.lrc_parse.specs.Exact.{Shape, Exact, shape_many}
 use Rattle.lrc_parse.proofs.Sets.{true_not_false, apart, clear_left, clear_right}
 use Rattle.lrc_parse.proofs.Back.{same_value, same_rest, on_took_back, cond_cases}
@@ -139,10 +139,3 @@ module _ {T : Type 0} (kind : T → ℕ) where
   exact_nested s body read e (suc depth) =
       exact_as kind s (body (Nested body depth)) (Nested body (suc depth)) (read (read_nested kind read s.first depth)) (read_nested kind read s.first (suc depth))
       (e (Nested body depth) (read_nested kind read s.first depth) (exact_nested s body read e depth)) (λ u x m. m) (λ u x m. m) (λ u. refl)
-
-  pub exact_nested_by : {Q A : Type 0} (s : Shape) (body : (Q → Lang T A) → Q → Lang T A) (read : (Q → List T → Reading T A) → Q → List T → Reading T A) →
-      ((L : Q → Lang T A) (a : Q → List T → Reading T A) → ((q : Q) → Exact kind s (L q) (a q)) → (q : Q) → Exact kind s (body L q) (read a q)) →
-      (depth : ℕ) (q : Q) → Exact kind s (NestedBy body depth q) (read_nested_by kind read s.first depth q)
-  unfolding read_nested_by
-  exact_nested_by s body read e zero q = e (λ _. Nothing) (λ _. read_nothing kind s.first nested) (λ _. exact_nothing kind s nested) q
-  exact_nested_by s body read e (suc depth) q = e (NestedBy body depth) (read_nested_by kind read s.first depth) (exact_nested_by s body read e depth) q

@@ -1,7 +1,7 @@
 -- What sets of kinds say of the next token.
 use Rattle.std.proofs.Common.{◌≡◌, ℕ, eqb, Bool, true, false, cond, List, [], ◌∷◌, ◌++◌, refl, sym, ap, ◌∙◌, ◌⊎◌, inl, inr}
 use Rattle.std.proofs.lemmas.Bool.{eqb-true}
-use Rattle.lrc_parse.specs.Kinds.{has, disjoint, starts}
+use Rattle.lrc_parse.specs.Kinds.{has, disjoint, covered, starts}
 
 pub true_not_false : (b : Bool) → b ≡ true → b ≡ false → ⊥
 true_not_false b e f = cc
@@ -60,7 +60,26 @@ has_cases (j ∷ js) ks k h = go (eqb j k) h (has_cases js ks k)
     go true h f = inl refl
     go false h f = f h
 
+-- what has a part of a set has the set
+pub has_covered : (js ks : List ℕ) (k : ℕ) → covered js ks ≡ true → has js k ≡ true → has ks k ≡ true
+has_covered [] ks k c h = cc
+has_covered (j ∷ js) ks k c h = go (has ks j) refl (eqb j k) refl c h (λ d g. has_covered js ks k d g)
+  where
+    go : (a : Bool) → has ks j ≡ a → (b : Bool) → eqb j k ≡ b → cond a (covered js ks) false ≡ true → cond b true (has js k) ≡ true →
+        (covered js ks ≡ true → has js k ≡ true → has ks k ≡ true) → has ks k ≡ true
+    go true e true f c h ih = ap (has ks) (sym (eqb-true j k f)) ∙ e
+    go true e false f c h ih = ih c h
+    go false e b f c h ih = absurd (true_not_false false c refl)
+
 module _ {T : Type 0} (kind : T → ℕ) where
+  pub clear_covered : (js ks : List ℕ) (u : List T) → covered js ks ≡ true → starts kind ks u ≡ false → starts kind js u ≡ false
+  clear_covered js ks [] c h = refl
+  clear_covered js ks (t ∷ u) c h = go (has js (kind t)) refl
+    where
+      go : (b : Bool) → has js (kind t) ≡ b → has js (kind t) ≡ false
+      go true e = absurd (true_not_false _ (has_covered js ks (kind t) c e) h)
+      go false e = e
+
   pub clear_left : (js ks : List ℕ) (u : List T) → starts kind (js ++ ks) u ≡ false → starts kind js u ≡ false
   clear_left js ks [] h = refl
   clear_left js ks (t ∷ u) h = lacks_left js ks (kind t) h

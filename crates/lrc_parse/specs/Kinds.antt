@@ -11,6 +11,11 @@ abbrev pub disjoint : List ℕ → List ℕ → Bool
 disjoint [] ks = true
 disjoint (j ∷ js) ks = cond (has ks j) false (disjoint js ks)
 
+-- whether each kind of the one set is in the other
+abbrev pub covered : List ℕ → List ℕ → Bool
+covered [] ks = true
+covered (j ∷ js) ks = cond (has ks j) (covered js ks) false
+
 -- whether the tokens begin with one whose kind is in the set
 abbrev pub starts : {T : Type 0} → (T → ℕ) → List ℕ → List T → Bool
 starts kind ks [] = false

@@ -80,11 +80,6 @@ module _ {T : Type 0} where
   Nested body zero = body Nothing
   Nested body (suc depth) = body (Nested body depth)
 
-  -- the same, where what stands within may hang on a number or another value that goes along, as a count so far
-  abbrev pub NestedBy : {Q A : Type 0} → ((Q → Lang T A) → Q → Lang T A) → ℕ → Q → Lang T A
-  NestedBy body zero q = body (λ _. Nothing) q
-  NestedBy body (suc depth) q = body (NestedBy body depth) q
-
 -- Tokens without a value are told by their kind, a number.
 module _ {T : Type 0} (kind : T → ℕ) where
   -- one token of the kind

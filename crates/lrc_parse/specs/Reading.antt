@@ -142,7 +142,7 @@ module _ {T : Type 0} (kind : T → ℕ) where
   read_folded_most k n first cause f item u =
       on_took (item u) (λ x r. read_joined_most k n first cause f item 1 x r)
 
-  -- the same, where what stands within may hang on a value that goes along
-  unfoldable pub read_nested_by : {Q A : Type 0} → ((Q → List T → Reading T A) → Q → List T → Reading T A) → List ℕ → ℕ → Q → List T → Reading T A
-  read_nested_by body first zero q u = body (λ _. read_nothing first nested) q u
-  read_nested_by body first (suc depth) q u = body (read_nested_by body first depth) q u
+  -- at most `levels` bodies within one another; what stands within may hang on a value that goes along
+  unfoldable pub read_levels : {Q A : Type 0} → ((Q → List T → Reading T A) → Q → List T → Reading T A) → List ℕ → ℕ → Q → List T → Reading T A
+  read_levels body first zero q u = read_nothing first nested u
+  read_levels body first (suc levels) q u = body (read_levels body first levels) q u

@@ -1,6 +1,9 @@
 pub mod Next
+pub mod Tables
 pub mod Turns
 pub mod Exactly
+pub mod Expressions
+pub mod Jobs
 pub mod Shorter
-pub mod Whole
+pub mod Verdict
 pub mod Limits

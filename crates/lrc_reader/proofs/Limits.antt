@@ -1,78 +1,120 @@
 -- A grammar that is read keeps the limits.
-use Rattle.std.proofs.Common.{◌≡◌, ℕ, ◌≤◌, Bool, false, cond, List, [], ◌∷◌, length, count_by, refl, sym, ap, subst, arith, lit≤, inl, inr, Result, Ok, Err, IfOk}
+use Rattle.std.proofs.Common.{◌≡◌, ℕ, zero, suc, ◌+◌, ◌<◌, ◌≤◌, ltb, Bool, true, false, cond, Option, Some, None, List, [], ◌∷◌, ◌++◌, length, count_by, refl, sym, ap, ◌∙◌, subst, arith, lit≤, inl, inr, Result, Ok, Err, IfOk}
 use Rattle.std.specs.List.{AllByRecursion}
+use Rattle.std.proofs.lemmas.Bool.{ltb-true}
 use Rattle.std.proofs.lemmas.List.Elements.{All-from_recursion}
-use Rattle.std.proofs.lemmas.List.Sums.{sum_by-cons}
+use Rattle.std.proofs.lemmas.List.Sums.{sum_by-append}
 use Rattle.lrc_base.specs.declared.raw.RawSort.{RawSort}
 use Rattle.lrc_base.specs.declared.raw.RawKid.{RawKid}
+use Rattle.lrc_base.specs.declared.raw.RawExpr.{RawExpr}
 use Rattle.lrc_base.specs.declared.raw.RawItem.{RawItem}
 use Rattle.lrc_base.specs.declared.raw.RawProd.{RawProd}
 use Rattle.lrc_base.specs.declared.raw.RawGrammar.{RawGrammar}
 use Rattle.lrc_base.specs.declared.job.Job.{Job}
 use Rattle.lrc_meaning.specs.Limits.{is_declaration, KeepsLimits}
-use Rattle.lrc_parse.specs.Language.{Many}
+use Rattle.lrc_parse.specs.Language.{Many, Turns}
+use Rattle.lrc_parse.specs.Limited.{Either}
 use Rattle.lrc_reader.specs.declared.fault.JobFault.{JobFault}
 use Rattle.lrc_reader.specs.declared.lexeme.Lexeme.{Lexeme}
-use Rattle.lrc_reader.specs.Grammar.{IsSort, IsKids, IsEquation, IsItems, IsProd, IsGrammar, IsJob}
+use Rattle.lrc_reader.specs.Grammar.{IsSort, IsKids, IsLocal, IsAttach, IsPattern, IsEquation, Items, IsDeclaration, IsOther, IsItems, IsProd, IsGrammar, IsJob, equation_of}
+use Rattle.lrc_reader.specs.Denotes.{Denotes}
 
-few_attrs : (u : List Lexeme) (s : RawSort) → IsSort u s → length s.attrs ≤ 16
+few_attrs : (u : List Lexeme) (s : RawSort) → (IsSort 0).derives u s → length s.attrs ≤ 16
 few_attrs u s d =
-    let attrs = d.5.5.5.5 in subst (λ (z : RawSort). length z.attrs ≤ 16) (sym attrs.5.5.1) attrs.4.1
+    let attrs = d.5.5.5 in subst (λ (z : RawSort). length z.attrs ≤ 16) (sym attrs.5.5.1) attrs.4.1
 
-few_kids : (u : List Lexeme) (kids : List RawKid) → IsKids u kids → length kids ≤ 8
+few_attrs_each : (u : List Lexeme) (ss : List RawSort) → Many (IsSort 0).derives u ss → AllByRecursion (λ (s : RawSort). length s.attrs ≤ 16) ss
+few_attrs_each u [] d = tt
+few_attrs_each u (s ∷ ss) d = (few_attrs _ s d.3, few_attrs_each d.1 ss d.4)
+
+few_kids : (u : List Lexeme) (kids : List RawKid) → (IsKids 0).derives u kids → length kids ≤ 8
 few_kids u kids d = subst (λ (z : List RawKid). length z ≤ 8) (sym d.5.5.5.1)
     (elim d.5.4 [ inl h ↦ h.1 | inr h ↦ subst (λ (z : List RawKid). length z ≤ 8) (sym h.1) (lit≤ tt) ])
 
-few_kids_of : (u : List Lexeme) (p : RawProd) → IsProd u p → length p.kids ≤ 8
+few_kids_of : (u : List Lexeme) (p : RawProd) → (IsProd 0).derives u p → length p.kids ≤ 8
 few_kids_of u p d =
     let kids = d.5.5.5.5 in subst (λ (z : RawProd). length z.kids ≤ 8) (sym kids.5.5.1) (few_kids _ _ kids.4)
 
-few_kids_each : (u : List Lexeme) (ps : List RawProd) → Many IsProd u ps → AllByRecursion (λ (p : RawProd). length p.kids ≤ 8) ps
+few_kids_each : (u : List Lexeme) (ps : List RawProd) → Many (IsProd 0).derives u ps → AllByRecursion (λ (p : RawProd). length p.kids ≤ 8) ps
 few_kids_each u [] d = tt
 few_kids_each u (p ∷ ps) d = (few_kids_of _ p d.3, few_kids_each d.1 ps d.4)
 
--- each item is an equation of a left attribute
-no_declaration : (u : List Lexeme) (i : RawItem) → IsEquation u i → is_declaration i ≡ false
-no_declaration u i d = let sum = d.5.5 in subst (λ (z : RawItem). is_declaration z ≡ false) (sym sum.5.5.1) refl
+-- the number of locals and nonterminal attributes with one item more
+one_more : (xs : List RawItem) (x : RawItem) (b : Bool) → is_declaration x ≡ b → count_by is_declaration (xs ++ x ∷ []) ≡ count_by is_declaration xs + cond {A = ℕ} b 1 0
+one_more xs x b e =
+    let f : count_by is_declaration (xs ++ x ∷ []) ≡ count_by is_declaration xs + (count_by is_declaration (x ∷ [])) = sum_by-append (λ (j : RawItem). cond {A = ℕ} (is_declaration j) 1 0) xs (x ∷ []) in
+    let g : count_by is_declaration (x ∷ []) ≡ cond {A = ℕ} b 1 0 = alone x b e in
+    f ∙ ap (λ n. count_by is_declaration xs + n) g
+  where
+    alone : (x : RawItem) (b : Bool) → is_declaration x ≡ b → count_by is_declaration (x ∷ []) ≡ cond {A = ℕ} b 1 0
+    alone x b e = let f : cond {A = ℕ} (is_declaration x) 1 0 ≡ cond {A = ℕ} b 1 0 = ap (λ (c : Bool). cond {A = ℕ} c 1 0) e in omega (arith, f)
 
-no_declarations : (u : List Lexeme) (is : List RawItem) → Many IsEquation u is → count_by is_declaration is ≡ 0
-no_declarations u [] d = refl
-no_declarations u (i ∷ is) d =
-    omega (arith, sum_by-cons (λ (j : RawItem). cond {A = ℕ} (is_declaration j) 1 0) i is, ap (λ (b : Bool). cond {A = ℕ} b 1 0) (no_declaration _ i d.3), no_declarations d.1 is d.4)
+declared : (u : List Lexeme) (x : RawItem) → (Either (IsLocal 0) (IsAttach 0)).derives u x → is_declaration x ≡ true
+declared u x (inl d) = ap is_declaration d.5.5.5.5.5.5.5.1
+declared u x (inr d) = ap is_declaration d.5.5.5.5.5.5.5.1
 
-no_locals : (u : List Lexeme) (is : List RawItem) → IsItems u is → count_by is_declaration is ≤ 16
-no_locals u is d =
-    let many = d.5 in
-    let none = no_declarations _ many.2 many.4 in
-    subst (λ (z : List RawItem). count_by is_declaration z ≤ 16) (sym many.5.5.1) (omega (arith, none))
+equation_declares : (n : List ℕ) (o : Option (List ℕ)) (x : RawExpr) → is_declaration (equation_of n o x) ≡ false
+equation_declares n None x = refl
+equation_declares n (Some a) x = refl
 
-no_locals_of : (u : List Lexeme) (p : RawProd) → IsProd u p → count_by is_declaration p.items ≤ 16
-no_locals_of u p d =
+undeclared : (u : List Lexeme) (x : RawItem) → (Either IsPattern (IsEquation 0)).derives u x → is_declaration x ≡ false
+undeclared u x (inl d) = ap is_declaration d.5.5.5.1
+undeclared u x (inr d) = ap is_declaration d.5.5.5.5.5.1 ∙ equation_declares _ _ _
+
+-- the number goes along with the items, and is within the limit
+abbrev Counts : Items → Type 0
+Counts s = (count_by is_declaration s.0 ≡ s.1) × (s.1 ≤ 16)
+
+an_item : (s z : Items) (u : List Lexeme) → (Either (IsDeclaration 0 s) (IsOther 0 s)).derives u z → Counts s → Counts z
+an_item s z u (inl d) c =
+    let room : s.1 < 16 = ltb-true s.1 16 d.4.0 in
+    let e : count_by is_declaration (s.0 ++ d.2 ∷ []) ≡ count_by is_declaration s.0 + 1 = one_more s.0 d.2 true (declared _ d.2 d.4.1) in
+    let f : count_by is_declaration s.0 ≡ s.1 = c.0 in
+    subst Counts (sym d.5.1) (omega (arith, e, f), omega (arith, room))
+an_item s z u (inr d) c =
+    let e : count_by is_declaration (s.0 ++ d.2 ∷ []) ≡ count_by is_declaration s.0 + 0 = one_more s.0 d.2 false (undeclared _ d.2 d.4) in
+    let f : count_by is_declaration s.0 ≡ s.1 = c.0 in
+    subst Counts (sym d.5.1) (omega (arith, e, f), c.1)
+
+the_items : (n : ℕ) (s z : Items) (u : List Lexeme) → Turns (λ y. (Either (IsDeclaration 0 y) (IsOther 0 y)).derives) n s u z → Counts s → Counts z
+the_items zero s z u d c = subst Counts (sym d.1) c
+the_items (suc n) s z u d c = the_items n d.2 z d.1 d.5 (an_item s d.2 d.0 d.4 c)
+
+few_locals : (u : List Lexeme) (xs : List RawItem) → (IsItems 0).derives u xs → count_by is_declaration xs ≤ 16
+few_locals u xs d =
+    let w = d.5 in
+    let c : Counts w.2 = the_items w.4.0 ([], 0) w.2 _ w.4.1 (refl, lit≤ tt) in
+    let e : count_by is_declaration w.2.0 ≡ w.2.1 = c.0 in
+    let l : w.2.1 ≤ 16 = c.1 in
+    subst (λ (z : List RawItem). count_by is_declaration z ≤ 16) (sym w.5.5.1) (omega (arith, e, l))
+
+few_locals_of : (u : List Lexeme) (p : RawProd) → (IsProd 0).derives u p → count_by is_declaration p.items ≤ 16
+few_locals_of u p d =
     let kids = d.5.5.5.5 in
-    let items = kids.5 in subst (λ (z : RawProd). count_by is_declaration z.items ≤ 16) (sym items.5.1) (no_locals _ items.2 items.4)
+    let items = kids.5 in subst (λ (z : RawProd). count_by is_declaration z.items ≤ 16) (sym items.5.1) (few_locals _ _ items.4)
 
-no_locals_each : (u : List Lexeme) (ps : List RawProd) → Many IsProd u ps → AllByRecursion (λ (p : RawProd). count_by is_declaration p.items ≤ 16) ps
-no_locals_each u [] d = tt
-no_locals_each u (p ∷ ps) d = (no_locals_of _ p d.3, no_locals_each d.1 ps d.4)
+few_locals_each : (u : List Lexeme) (ps : List RawProd) → Many (IsProd 0).derives u ps → AllByRecursion (λ (p : RawProd). count_by is_declaration p.items ≤ 16) ps
+few_locals_each u [] d = tt
+few_locals_each u (p ∷ ps) d = (few_locals_of _ p d.3, few_locals_each d.1 ps d.4)
 
-grammar_keeps : (u : List Lexeme) (g : RawGrammar) → IsGrammar u g → KeepsLimits g
+grammar_keeps : (u : List Lexeme) (g : RawGrammar) → (IsGrammar 0).derives u g → KeepsLimits g
 grammar_keeps u g d =
     let prods = d.5 in
     subst KeepsLimits (sym prods.5.5.1) (record {
-      sorts = lit≤ tt;
+      sorts = d.4.1;
       prods = prods.4.1;
-      attrs = All-from_recursion (λ (s : RawSort). length s.attrs ≤ 16) (d.2 ∷ []) (few_attrs _ _ d.4, tt);
+      attrs = All-from_recursion (λ (s : RawSort). length s.attrs ≤ 16) d.2 (few_attrs_each _ _ d.4.0);
       kids = All-from_recursion (λ (p : RawProd). length p.kids ≤ 8) prods.2 (few_kids_each _ _ prods.4.0);
-      locals = All-from_recursion (λ (p : RawProd). count_by is_declaration p.items ≤ 16) prods.2 (no_locals_each _ _ prods.4.0);
+      locals = All-from_recursion (λ (p : RawProd). count_by is_declaration p.items ≤ 16) prods.2 (few_locals_each _ _ prods.4.0);
     })
 
-job_keeps : (u : List Lexeme) (job : Job) → IsJob u job → KeepsLimits job.grammar
+job_keeps : (u : List Lexeme) (job : Job) → (IsJob 0).derives u job → KeepsLimits job.grammar
 unfolding IsJob
 job_keeps u job d =
     let grammar = d.5.5 in
     subst (λ (z : Job). KeepsLimits z.grammar) (sym grammar.5.5.1) (grammar_keeps _ _ grammar.4)
 
 -- the same of what a reading answers
-pub ok_keeps : (u : List Lexeme) (r : Result Job JobFault) → IfOk r (IsJob u) → IfOk r (λ job. KeepsLimits job.grammar)
-ok_keeps u (Ok job) d = job_keeps u job d
-ok_keeps u (Err fault) d = tt
+pub ok_keeps : (text : List ℕ) (r : Result Job JobFault) → IfOk r (Denotes text) → IfOk r (λ job. KeepsLimits job.grammar)
+ok_keeps text (Ok job) d = job_keeps _ job d.derived
+ok_keeps text (Err fault) d = tt

@@ -1,11 +1,12 @@
 -- Readings that look at the next lexeme, by what stands at place 0.
-use Rattle.std.proofs.Common.{◌≡◌, ℕ, ◌==◌, Bool, true, false, cond, Option, Some, None, List, [], ◌∷◌, drop, slice_get, refl, sym, ap, ◌∙◌, arith}
+use Rattle.std.proofs.Common.{◌≡◌, ℕ, ◌==◌, ◌<◌, ◌≤◌, ltb, Bool, true, false, cond, Option, Some, None, List, [], ◌∷◌, drop, slice_get, refl, sym, ap, ◌∙◌, arith}
+use Rattle.std.proofs.lemmas.Bool.{lt-ltb, le-ltb}
 use Rattle.std.proofs.lemmas.Bool.Decides.{nat_tests}
 use Rattle.lrc_parse.specs.Kinds.{has, starts}
-use Rattle.lrc_parse.specs.Reading.{took, read_one, read_fixed, token_value}
+use Rattle.lrc_parse.specs.Reading.{Cause, Reading, expected, took, stops, on_took, read_one, read_fixed, read_nothing, read_within, token_value}
+use Rattle.lrc_parse.proofs.Steps.{read_within_passed, read_within_other}
 use Rattle.lrc_reader.specs.declared.lexeme.Lexeme.{Lexeme}
 use Rattle.lrc_reader.specs.Lexeme.{kind}
-use Rattle.lrc_reader.specs.Gives.{Stops}
 
 pub starts_next : (ks : List ℕ) (u : List Lexeme) (t : Lexeme) → slice_get u 0 ≡ Some t → starts kind ks u ≡ has ks (kind t)
 starts_next ks [] t e = cc
@@ -28,15 +29,15 @@ unfolding read_one
 one_took value [] t x e f = cc
 one_took value (s ∷ u) t x e f = let g : s ≡ t = cc in let h : value s ≡ Some x = ap value g ∙ f in ap (λ o. token_value o s u) h
 
-pub one_end : {A : Type 0} (value : Lexeme → Option A) (u : List Lexeme) → slice_get u 0 ≡ None → Stops (read_one value u)
+pub one_end : {A : Type 0} (value : Lexeme → Option A) (u : List Lexeme) → slice_get u 0 ≡ None → read_one value u ≡ stops expected u
 unfolding read_one
-one_end value [] e = tt
+one_end value [] e = refl
 one_end value (s ∷ u) e = cc
 
-pub one_other : {A : Type 0} (value : Lexeme → Option A) (u : List Lexeme) (t : Lexeme) → slice_get u 0 ≡ Some t → value t ≡ None → Stops (read_one value u)
+pub one_other : {A : Type 0} (value : Lexeme → Option A) (u : List Lexeme) (t : Lexeme) → slice_get u 0 ≡ Some t → value t ≡ None → read_one value u ≡ stops expected u
 unfolding read_one
 one_other value [] t e f = cc
-one_other value (s ∷ u) t e f = let g : s ≡ t = cc in let h : value s ≡ None = ap value g ∙ f in rw h tt
+one_other value (s ∷ u) t e f = let g : s ≡ t = cc in let h : value s ≡ None = ap value g ∙ f in ap (λ o. token_value o s u) h
 
 same_kind : (k n : ℕ) → (k == n) ≡ (n == k)
 same_kind k n = grind (arith, nat_tests)
@@ -50,16 +51,32 @@ unfolding read_fixed
 fixed_took k [] e = cc
 fixed_took k (t ∷ u) e = rw (only_next k t u true e) refl
 
-pub fixed_stops : (k : ℕ) (u : List Lexeme) → starts kind (k ∷ []) u ≡ false → Stops (read_fixed kind k u)
+pub fixed_stops : (k : ℕ) (u : List Lexeme) → starts kind (k ∷ []) u ≡ false → read_fixed kind k u ≡ stops expected u
 unfolding read_fixed
-fixed_stops k [] e = tt
-fixed_stops k (t ∷ u) e = rw (only_next k t u false e) tt
+fixed_stops k [] e = refl
+fixed_stops k (t ∷ u) e = rw (only_next k t u false e) refl
 
--- one of two kinds
-pub starts_two : (j k : ℕ) (u : List Lexeme) → starts kind (j ∷ k ∷ []) u ≡ cond (starts kind (j ∷ []) u) true (starts kind (k ∷ []) u)
-starts_two j k [] = refl
-starts_two j k (t ∷ u) = either (j == kind t) (k == kind t)
+-- some room is left, or none is
+pub room_left : {A : Type 0} (k n : ℕ) (ks : List ℕ) (c : Cause) (a : List Lexeme → Reading Lexeme A) (u : List Lexeme) →
+    k < n → read_within kind (ltb k n) ks c a u ≡ a u
+unfolding read_within
+room_left k n ks c a u l = rw (lt-ltb k n l) refl
+
+pub room_passed : {A : Type 0} (k n : ℕ) (ks : List ℕ) (c : Cause) (a : List Lexeme → Reading Lexeme A) (u : List Lexeme) →
+    n ≤ k → starts kind ks u ≡ true → read_within kind (ltb k n) ks c a u ≡ stops c u
+room_passed k n ks c a u l e = read_within_passed kind (ltb k n) ks c a u (le-ltb k n l) e
+
+pub room_other : {A : Type 0} (k n : ℕ) (ks : List ℕ) (c : Cause) (a : List Lexeme → Reading Lexeme A) (u : List Lexeme) →
+    n ≤ k → starts kind ks u ≡ false → read_within kind (ltb k n) ks c a u ≡ stops expected u
+room_other k n ks c a u l e = read_within_other kind (ltb k n) ks c a u (le-ltb k n l) e
+
+-- what is read where there is room
+pub room_and : {A : Type 0} (room : Bool) (ks : List ℕ) (c : Cause) (a : List Lexeme → Reading Lexeme A) (u : List Lexeme) →
+    on_took (read_within kind room ks c (λ v. let o : Unit {0} = tt in took o v) u) (λ _. a) ≡ read_within kind room ks c a u
+unfolding read_within read_nothing
+room_and true ks c a u = refl
+room_and {A} false ks c a u = go (starts kind ks u)
   where
-    either : (a b : Bool) → cond a true (cond b true false) ≡ cond (cond a true false) true (cond b true false)
-    either true b = refl
-    either false b = refl
+    go : (b : Bool) → on_took (cond b (stops c u) (stops expected u)) (λ (_ : Unit {0}). a) ≡ cond b (stops c u) (stops expected u)
+    go true = refl
+    go false = refl

@@ -5,22 +5,15 @@ use Rattle.lrc_parse.specs.Reading.{Reading, Cause, expected, took, stops, on_to
 use Rattle.lrc_parse.proofs.Loops.{read_loop_stops, read_loop_more}
 use Rattle.lrc_reader.specs.declared.lexeme.Lexeme.{Lexeme}
 use Rattle.lrc_reader.specs.Lexeme.{kind}
-use Rattle.lrc_reader.specs.Gives.{Stops}
-
--- a reading that stops, by its cause
-stopped : {A : Type 0} (a : Reading Lexeme A) → Stops a → (c : Cause) × (r : List Lexeme) × (a ≡ stops c r)
-stopped (took x r) h = absurd h
-stopped (stops c r) h = (c, r, refl)
 
 -- one turn more
 pub loop_turn : {S : Type 0} (first : List ℕ) (step : S → List Lexeme → Reading Lexeme S) (s z : S) (u r : List Lexeme) →
     starts kind first u ≡ true → step s u ≡ took z r → length r < length u → read_loop kind first step s u ≡ read_loop kind first step z r
 loop_turn first step s z u r e f l = read_loop_more kind first step s z u r e f l
 
-pub loop_stops : {S : Type 0} (first : List ℕ) (step : S → List Lexeme → Reading Lexeme S) (s : S) (u : List Lexeme) →
-    starts kind first u ≡ true → Stops (step s u) → Stops (read_loop kind first step s u)
-loop_stops first step s u e h =
-    let w = stopped (step s u) h in rw (read_loop_stops kind first step s u w.1 w.0 e w.2) tt
+pub loop_stops : {S : Type 0} (first : List ℕ) (step : S → List Lexeme → Reading Lexeme S) (s : S) (c : Cause) (u r : List Lexeme) →
+    starts kind first u ≡ true → step s u ≡ stops c r → read_loop kind first step s u ≡ stops c r
+loop_stops first step s c u r e f = read_loop_stops kind first step s u r c e f
 
 -- a mark is passed as it is read alone
 pub past_fixed : {A : Type 0} (k : ℕ) (a : List Lexeme → Reading Lexeme A) (u : List Lexeme) →
@@ -47,10 +40,10 @@ module _ {A : Type 0} (k : ℕ) (item : List Lexeme → Reading Lexeme A) where
   unfolding read_others read_push read_of
   others_turn xs zs u r e f l = loop_turn (k ∷ []) _ xs zs u r e (past_fixed k (push xs) u ∙ f) l
 
-  pub others_stops : (xs : List A) (u : List Lexeme) →
-      starts kind (k ∷ []) u ≡ true → Stops (another xs u) → Stops (read_others kind k item xs u)
+  pub others_stops : (xs : List A) (c : Cause) (u r : List Lexeme) →
+      starts kind (k ∷ []) u ≡ true → another xs u ≡ stops c r → read_others kind k item xs u ≡ stops c r
   unfolding read_others read_push read_of
-  others_stops xs u e h = loop_stops (k ∷ []) (λ ys. read_skip kind k (push ys)) xs u e (rw (past_fixed k (push xs) u) h)
+  others_stops xs c u r e f = loop_stops (k ∷ []) (λ ys. read_skip kind k (push ys)) xs c u r e (past_fixed k (push xs) u ∙ f)
 
   -- the first item, and then those behind it
   pub separated_is : (u : List Lexeme) → read_separated kind k item u ≡ on_took (push [] u) (read_others kind k item)
@@ -71,11 +64,12 @@ module _ {A : Type 0} (k : ℕ) (item : List Lexeme → Reading Lexeme A) where
     unfolding read_others_most read_push_most read_push read_of
     others_most_turn xs zs u r e f l = loop_turn (k ∷ []) _ xs zs u r e (past_fixed k _ u ∙ f) l
 
-    pub others_most_stops : (xs : List A) (u : List Lexeme) →
-        starts kind (k ∷ []) u ≡ true → Stops (another_most xs u) → Stops (read_others_most kind k n first cause item xs u)
+    pub others_most_stops : (xs : List A) (c : Cause) (u r : List Lexeme) →
+        starts kind (k ∷ []) u ≡ true → another_most xs u ≡ stops c r → read_others_most kind k n first cause item xs u ≡ stops c r
     unfolding read_others_most read_push_most read_push read_of
-    others_most_stops xs u e h =
-        loop_stops (k ∷ []) (λ ys. read_skip kind k (read_within kind (ltb (length ys) n) first cause (push ys))) xs u e (rw (past_fixed k (read_within kind (ltb (length xs) n) first cause (push xs)) u) h)
+    others_most_stops xs c u r e f =
+        loop_stops (k ∷ []) (λ ys. read_skip kind k (read_within kind (ltb (length ys) n) first cause (push ys))) xs c u r e
+        (past_fixed k (read_within kind (ltb (length xs) n) first cause (push xs)) u ∙ f)
 
     pub separated_most_is : (u : List Lexeme) → read_separated_most kind k n first cause item u ≡ on_took (push [] u) (read_others_most kind k n first cause item)
     unfolding read_separated_most

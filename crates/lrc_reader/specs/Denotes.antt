@@ -11,4 +11,4 @@ pub record Denotes (bytes : List ℕ) (job : Job) : Type 0 where
   pub short : length bytes ≤ 16777216
   pub found : List Token
   pub cut : Tokens bytes found
-  pub derived : IsJob (lexemes bytes found) job
+  pub derived : (IsJob 0).derives (lexemes bytes found) job

@@ -1,11 +1,12 @@
 -- What the reader sees of a token.
-use Rattle.std.specs.Prelude.{ℕ, ℤ, pos, List, [], ◌∷◌, map, slice_range, Option, Some, None, if◌then◌else◌, codes}
+use Rattle.std.specs.Prelude.{ℕ, ℤ, pos, neg_ℤ, List, [], ◌∷◌, map, drop, slice_range, Option, Some, None, if◌then◌else◌, codes}
 use Rattle.std.specs.Str.{bytes_eq}
 use Rattle.lrc_lex.specs.declared.Token.{Token}
 use Rattle.lrc_lex.specs.declared.TokenClass.{TokenClass}
 use Rattle.lrc_lex.specs.declared.TokenClass.TheVariants as class
 use Rattle.lrc_base.specs.declared.job.Path.{Path}
 use Rattle.lrc_lex.specs.Decimal.{natural_value}
+use Rattle.lrc_lex.specs.Quoted.{unquoted}
 use Rattle.lrc_reader.specs.Place.{place}
 use Rattle.lrc_reader.specs.declared.lexeme.Mark.{Mark}
 use Rattle.lrc_reader.specs.declared.lexeme.Mark.TheVariants as m
@@ -77,9 +78,9 @@ unfoldable pub seen : TokenClass → List ℕ → Lexeme
 seen class.Word spelling = word_or spelling (mark_of spelling)
 seen class.Symbol spelling = mark_or_other (mark_of spelling)
 seen class.Natural spelling = l.Natural (pos (natural_value spelling))
-seen class.Negative spelling = l.Other
-seen class.NameLit spelling = l.Other
-seen class.Text spelling = l.Other
+seen class.Negative spelling = l.Negative (neg_ℤ (pos (natural_value (drop 1 spelling))))
+seen class.NameLit spelling = l.Name (drop 1 spelling)
+seen class.Text spelling = l.Text (unquoted spelling)
 seen class.Path spelling = l.Path (place spelling)
 
 abbrev pub lexeme_of : List ℕ → Token → Lexeme
@@ -88,45 +89,45 @@ lexeme_of text t = seen t.class (slice_range text t.at t.end)
 abbrev pub lexemes : List ℕ → List Token → List Lexeme
 lexemes text toks = map (lexeme_of text) toks
 
--- marks by number; 0 to 3 are the kinds of other lexemes
+-- marks by number; 0 to 6 are the kinds of other lexemes
 abbrev pub number : Mark → ℕ
-number m.LeftBrace = 4
-number m.RightBrace = 5
-number m.LeftParen = 6
-number m.RightParen = 7
-number m.Colon = 8
-number m.Semicolon = 9
-number m.Comma = 10
-number m.Dot = 11
-number m.Equals = 12
-number m.SameAs = 13
-number m.Less = 14
-number m.Plus = 15
-number m.Minus = 16
-number m.Star = 17
-number m.Lrc = 18
-number m.Sort = 19
-number m.Prod = 20
-number m.Start = 21
-number m.Session = 22
-number m.Inh = 23
-number m.Syn = 24
-number m.Local = 25
-number m.Attach = 26
-number m.Text = 27
-number m.On = 28
-number m.Put = 29
-number m.Copy = 30
-number m.Show = 31
-number m.Forget = 32
-number m.If = 33
-number m.Then = 34
-number m.Else = 35
-number m.True = 36
-number m.False = 37
-number m.Int = 38
-number m.Bool = 39
-number m.Name = 40
+number m.LeftBrace = 7
+number m.RightBrace = 8
+number m.LeftParen = 9
+number m.RightParen = 10
+number m.Colon = 11
+number m.Semicolon = 12
+number m.Comma = 13
+number m.Dot = 14
+number m.Equals = 15
+number m.SameAs = 16
+number m.Less = 17
+number m.Plus = 18
+number m.Minus = 19
+number m.Star = 20
+number m.Lrc = 21
+number m.Sort = 22
+number m.Prod = 23
+number m.Start = 24
+number m.Session = 25
+number m.Inh = 26
+number m.Syn = 27
+number m.Local = 28
+number m.Attach = 29
+number m.Text = 30
+number m.On = 31
+number m.Put = 32
+number m.Copy = 33
+number m.Show = 34
+number m.Forget = 35
+number m.If = 36
+number m.Then = 37
+number m.Else = 38
+number m.True = 39
+number m.False = 40
+number m.Int = 41
+number m.Bool = 42
+number m.Name = 43
 
 abbrev pub word_kind : ℕ
 word_kind = 0
@@ -134,26 +135,33 @@ word_kind = 0
 abbrev pub natural_kind : ℕ
 natural_kind = 1
 
+abbrev pub negative_kind : ℕ
+negative_kind = 2
+
+abbrev pub name_kind : ℕ
+name_kind = 3
+
+abbrev pub text_kind : ℕ
+text_kind = 4
+
 abbrev pub path_kind : ℕ
-path_kind = 2
+path_kind = 5
 
 -- what a grammar tells lexemes by
 abbrev pub kind : Lexeme → ℕ
 kind (l.Word name) = word_kind
 kind (l.Natural value) = natural_kind
+kind (l.Negative value) = negative_kind
+kind (l.Name name) = name_kind
+kind (l.Text bytes) = text_kind
 kind (l.Path path) = path_kind
-kind l.Other = 3
+kind l.Other = 6
 kind (l.Mark m) = number m
 
 -- the name that a word is
 abbrev pub word_of : Lexeme → Option (List ℕ)
 word_of (l.Word name) = Some name
 word_of _ = None
-
--- the number that a natural is
-abbrev pub natural_of : Lexeme → Option ℤ
-natural_of (l.Natural value) = Some value
-natural_of _ = None
 
 -- the place that a path names
 abbrev pub path_of : Lexeme → Option Path

@@ -1,16 +1,16 @@
 //! A cursor over the tokens of a text, seen as the lexemes that are left.
 
-ghost use Rattle.std.specs.Prelude.{◌≡◌, ◌≤◌, [], ◌∷◌, ◌↔◌, IsTrue, length, drop, slice_get, All};
+ghost use Rattle.std.specs.Prelude.{◌≡◌, ◌<◌, cond, OnOk, ◌≤◌, [], ◌∷◌, ◌↔◌, IsTrue, length, drop, slice_get, All};
 ghost use Rattle.lrc_lex.specs.Longest.{IsTokenOf};
-ghost use Rattle.lrc_parse.specs.Kinds.{starts};
+ghost use Rattle.lrc_parse.specs.Kinds.{has, starts};
 ghost use Rattle.lrc_parse.specs.Reading.{read_fixed};
 ghost use Rattle.lrc_reader.specs.Lexeme as spec;
 ghost use Rattle.lrc_reader.specs.Lexeme.{kind, number};
 ghost use Rattle.lrc_reader.specs.Reading as reading;
 ghost use Rattle.lrc_reader.specs.Gives.{Gives};
 
-use crate::fault::JobFault;
-use crate::lexeme::{Lexeme, Mark, NATURAL_KIND, WORD_KIND, kind_of, lexeme_of, number_of};
+use crate::fault::{Limit, Stop};
+use crate::lexeme::{Lexeme, Mark, WORD_KIND, kind_of, lexeme_of, number_of};
 use lrc_base::{NameText, Path};
 use lrc_lex::Token;
 use std::alloc::Global;
@@ -35,6 +35,20 @@ impl<'a> Model for Cursor<'a> {
     ghost view = { λ c. lexemes c.text.now c.tokens.now };
 
     ghost invariant = { λ c. All (IsTokenOf c.text.now) c.tokens.now };
+}
+
+/// Whether the set has the kind.
+fn has(kinds: &[u8], wanted: u8) -> bool
+    ensures { result ≡ has kinds.now wanted }
+{
+    let mut rest = kinds;
+    while let [first, behind @ ..] = rest {
+        if *first == wanted {
+            return true;
+        }
+        rest = behind;
+    }
+    false
 }
 
 impl<'a> Cursor<'a> {
@@ -63,13 +77,20 @@ impl<'a> Cursor<'a> {
         }
     }
 
-    /// Whether the next lexeme is of this kind.
-    #[tactic(auto, using(crate::proofs::Next::starts_next, crate::proofs::Next::starts_end, crate::proofs::Next::has_only))]
-    fn sees_kind(&self, wanted: u8) -> bool
-        ensures { result ≡ starts kind (wanted ∷ []) self.now }
+    /// How many lexemes are left.
+    pub fn left(&self) -> usize
+        ensures { result ≡ length self.now }
+    {
+        self.tokens.len()
+    }
+
+    /// Whether the next lexeme is of one of these kinds.
+    #[tactic(auto, using(crate::proofs::Next::starts_next, crate::proofs::Next::starts_end))]
+    pub fn sees_one_of(&self, kinds: &[u8]) -> bool
+        ensures { result ≡ starts kind kinds.now self.now }
     {
         match self.peek() {
-            Some(lexeme) => wanted == kind_of(&lexeme),
+            Some(lexeme) => has(kinds, kind_of(&lexeme)),
             None => false,
         }
     }
@@ -78,38 +99,51 @@ impl<'a> Cursor<'a> {
     pub fn sees(&self, mark: Mark) -> bool
         ensures { result ≡ starts kind (number mark ∷ []) self.now }
     {
-        self.sees_kind(number_of(mark))
+        self.sees_one_of(&[number_of(mark)])
     }
 
     /// Whether the next lexeme is a word.
     pub fn sees_word(&self) -> bool
         ensures { result ≡ starts kind reading.words self.now }
     {
-        self.sees_kind(WORD_KIND)
+        self.sees_one_of(&[WORD_KIND])
     }
 
-    /// Whether the next lexeme is a natural.
-    pub fn sees_natural(&self) -> bool
-        ensures { result ≡ starts kind reading.naturals self.now }
+    /// That there is room behind `count` of them, at most `most`, for another that begins with one
+    /// of these kinds.
+    #[tactic(auto, unfolding(crate::specs::Reading::read_room), using(crate::proofs::Next::room_left, crate::proofs::Next::room_passed, crate::proofs::Next::room_other))]
+    pub fn room(&self, count: usize, most: usize, kinds: &[u8], limit: Limit) -> Result<(), Stop>
+        ensures gives { Gives result self.now (reading.read_room count most kinds.now limit self.now) }
+        ensures within { OnOk result (count < most) }
     {
-        self.sees_kind(NATURAL_KIND)
+        if count < most {
+            Ok(())
+        } else if self.sees_one_of(kinds) {
+            Err(Stop::LimitReached(limit))
+        } else {
+            Err(Stop::Expected)
+        }
     }
 
-    /// Whether the next lexeme is a natural or a word.
-    #[tactic(auto, using(crate::proofs::Next::starts_two))]
-    pub fn sees_value(&self) -> bool
-        ensures { result ≡ starts kind reading.values self.now }
+    /// Why what begins with one of these kinds may not come next, where nothing may stand deeper.
+    #[tactic(auto, unfolding(lrc_parse::specs::Reading::read_nothing))]
+    pub fn too_deep(&self, kinds: &[u8]) -> Stop
+        ensures { result ≡ cond (starts kind kinds.now self.now) Stop.NestedTooDeep Stop.Expected }
     {
-        self.sees_natural() || self.sees_word()
+        if self.sees_one_of(kinds) {
+            Stop::NestedTooDeep
+        } else {
+            Stop::Expected
+        }
     }
 
     /// Goes past this mark.
     #[tactic(auto, using(crate::proofs::Next::fixed_took, crate::proofs::Next::fixed_stops))]
-    pub fn expect(&mut self, mark: Mark) -> Result<(), JobFault>
+    pub fn expect(&mut self, mark: Mark) -> Result<(), Stop>
         ensures { Gives result self.new (read_fixed kind (number mark) self.old) }
     {
         if !self.sees(mark) {
-            return Err(JobFault::NotBuilt);
+            return Err(Stop::Expected);
         }
         self.advance();
         Ok(())
@@ -117,41 +151,26 @@ impl<'a> Cursor<'a> {
 
     /// Goes past a word, and answers its name.
     #[tactic(auto, unfolding(crate::specs::Reading::read_word), using(crate::proofs::Next::one_took, crate::proofs::Next::one_end, crate::proofs::Next::one_other))]
-    pub fn word(&mut self) -> Result<NameText, JobFault>
+    pub fn word(&mut self) -> Result<NameText, Stop>
         ensures { Gives result self.new (reading.read_word self.old) }
     {
         let Some(lexeme) = self.peek() else {
-            return Err(JobFault::NotBuilt);
+            return Err(Stop::Expected);
         };
         let Some(name) = lexeme.name() else {
-            return Err(JobFault::NotBuilt);
+            return Err(Stop::Expected);
         };
         self.advance();
         Ok(name)
     }
 
-    /// Goes past a natural, and answers its value.
-    #[tactic(auto, unfolding(crate::specs::Reading::read_number), using(crate::proofs::Next::one_took, crate::proofs::Next::one_end, crate::proofs::Next::one_other))]
-    pub fn natural(&mut self) -> Result<i64, JobFault>
-        ensures { Gives result self.new (reading.read_number self.old) }
-    {
-        let Some(lexeme) = self.peek() else {
-            return Err(JobFault::NotBuilt);
-        };
-        let Some(value) = lexeme.value() else {
-            return Err(JobFault::NotBuilt);
-        };
-        self.advance();
-        Ok(value)
-    }
-
     /// Goes past a path, and answers the place that it names.
     #[tactic(auto, unfolding(crate::specs::Reading::read_path), using(crate::proofs::Next::one_took, crate::proofs::Next::one_end, crate::proofs::Next::one_other))]
-    pub fn path(&mut self, alloc: Global) -> Result<Path, JobFault>
+    pub fn path(&mut self, alloc: Global) -> Result<Path, Stop>
         ensures { Gives result self.new (reading.read_path self.old) }
     {
         let Some(Lexeme::Path(text)) = self.peek() else {
-            return Err(JobFault::NotBuilt);
+            return Err(Stop::Expected);
         };
         let path = text.path(alloc)?;
         self.advance();
@@ -160,17 +179,32 @@ impl<'a> Cursor<'a> {
 
     /// Goes past a natural of value 1.
     #[tactic(auto, unfolding(crate::specs::Reading::read_one_number), using(crate::proofs::Next::one_took, crate::proofs::Next::one_end, crate::proofs::Next::one_other))]
-    pub fn one(&mut self) -> Result<(), JobFault>
+    pub fn one(&mut self) -> Result<(), Stop>
         ensures { Gives result self.new (reading.read_one_number self.old) }
     {
         let Some(lexeme) = self.peek() else {
-            return Err(JobFault::NotBuilt);
+            return Err(Stop::Expected);
         };
         let Some(one) = lexeme.one() else {
-            return Err(JobFault::NotBuilt);
+            return Err(Stop::Expected);
         };
         self.advance();
         Ok(one)
+    }
+
+    /// Goes past a natural, and answers its value.
+    #[tactic(auto, unfolding(crate::specs::Reading::read_count), using(crate::proofs::Next::one_took, crate::proofs::Next::one_end, crate::proofs::Next::one_other))]
+    pub fn count(&mut self) -> Result<u64, Stop>
+        ensures { Gives result self.new (reading.read_count self.old) }
+    {
+        let Some(lexeme) = self.peek() else {
+            return Err(Stop::Expected);
+        };
+        let Some(count) = lexeme.count() else {
+            return Err(Stop::Expected);
+        };
+        self.advance();
+        Ok(count)
     }
 
     /// Whether no lexeme is left.

@@ -1,91 +1,100 @@
-//! The whole of a job, from its bytes.
+//! Jobs, from the bytes of a text.
 
-ghost use Rattle.std.specs.Prelude.{◌≡◌, ◌≤◌, List as Sequence, ℕ, length, All, IfOk, IsErrOf};
+ghost use Rattle.std.specs.Prelude.{◌≡◌, ◌≢◌, ◌≤◌, ◌-◌, List as Sequence, ℕ, length, drop, All, IfOk, IfErr};
 ghost use Rattle.lrc_base.specs.declared.job.Job.{Job};
 ghost use Rattle.lrc_lex.specs.declared.Token.{Token};
 ghost use Rattle.lrc_lex.specs.Longest.{IsTokenOf};
 ghost use Rattle.lrc_lex.specs.Tokens.{Tokens};
 ghost use Rattle.lrc_meaning.specs.Limits.{KeepsLimits};
 ghost use Rattle.lrc_reader.specs.Denotes.{Denotes};
-ghost use Rattle.lrc_reader.specs.Gives.{Gives};
-ghost use Rattle.lrc_reader.specs.Grammar.{IsJob};
-ghost use Rattle.lrc_reader.specs.Lexeme.{lexemes};
-ghost use Rattle.lrc_reader.specs.Reading as reading;
+ghost use Rattle.lrc_reader.specs.Faults.{FirstTextFault, start_of};
+ghost use Rattle.lrc_reader.specs.Gives.{fault_at};
 
 use crate::cursor::Cursor;
-use crate::declare::{grammar, only};
-use crate::fault::JobFault;
-use crate::lexeme::Mark;
-use crate::session::session;
+use crate::fault::{JobFault, Stop};
+use crate::whole::job;
 use lrc_base::{Job, List};
 use lrc_lex::{LexFault, TEXT_LIMIT, Token, tokens};
 use std::alloc::Global;
 
-/// The header, a grammar and a session.
-#[tactic(auto, unfolding(crate::specs::Reading::read_all))]
-fn job(alloc: Global, cursor: &mut Cursor<'_>) -> Result<Job, JobFault>
-    ensures { Gives result cursor.new (reading.read_all cursor.old) }
+/// Where the first of the last `left` tokens begins; the text's length where none is left.
+fn place(text: &[u8], tokens: &[Token], left: usize) -> u32
+    requires { length text.now ≤ 16777216 }
+    ensures { result ≡ start_of text.now (drop (length tokens.now - left) tokens.now) }
 {
-    cursor.expect(Mark::Lrc)?;
-    cursor.one()?;
-    let grammar = grammar(alloc, cursor)?;
-    let session = session(alloc, cursor)?;
-    Ok(Job {
-        grammar,
-        sessions: only(alloc, session)?,
-    })
+    match &tokens[tokens.len().saturating_sub(left)..] {
+        [first, ..] => first.at,
+        [] => text.len() as u32,
+    }
 }
 
-/// The job that tokens stand for, all of them.
-fn derived(alloc: Global, bytes: &[u8], found: &[Token]) -> Result<Job, JobFault>
-    requires { All (IsTokenOf bytes.now) found.now }
-    ensures ok { IfOk result (λ job. IsJob (lexemes bytes.now found.now) job) }
-    ensures not_built { IsErrOf result JobFault.NotBuilt → (job : Job) → IsJob (lexemes bytes.now found.now) job → ⊥ }
+/// The fault of a job whose reading stops at this place.
+fn fault(stop: Stop, at: u32) -> JobFault
+    ensures { result ≡ fault_at stop at }
 {
-    let mut cursor = Cursor::new(bytes, found);
+    match stop {
+        Stop::Expected => JobFault::Expected { at },
+        Stop::NestedTooDeep => JobFault::NestedTooDeep { at },
+        Stop::LimitReached(limit) => JobFault::LimitReached { at, limit },
+        Stop::Memory => JobFault::Memory,
+    }
+}
+
+/// The job that the tokens of a text stand for.
+fn job_of(alloc: Global, text: &[u8], found: &[Token]) -> Result<Job, JobFault>
+    requires short { length text.now ≤ 16777216 }
+    requires cut { Tokens text.now found.now }
+    requires each { All (IsTokenOf text.now) found.now }
+    ensures ok { IfOk result (λ job. Denotes text.now job) }
+    ensures fault { IfErr result (λ fault. fault ≢ JobFault.Memory → FirstTextFault text.now fault) }
+    ensures only { IfErr result (λ fault. fault ≢ JobFault.Memory → (job : Job) → Denotes text.now job → ⊥) }
+{
+    let mut cursor = Cursor::new(text, found);
     match job(alloc, &mut cursor) {
         Ok(job) => {
-            if cursor.is_at_end() {
+            let left = cursor.left();
+            if left == 0 {
                 Ok(job)
             } else {
-                Err(JobFault::NotBuilt)
+                Err(fault(Stop::Expected, place(text, found, left)))
             }
         }
-        Err(fault) => Err(fault),
+        Err(stop) => Err(fault(stop, place(text, found, cursor.left()))),
     }
 }
 
 /// The tokens of a text.
-fn tokens_of(alloc: Global, bytes: &[u8]) -> Result<List<Token>, JobFault>
-    requires { length bytes.now ≤ 16777216 }
-    ensures ok { IfOk result (λ found. Tokens bytes.now found) }
-    ensures each { IfOk result (λ found. All (IsTokenOf bytes.now) found) }
-    ensures not_built { IsErrOf result JobFault.NotBuilt → (found : Sequence Token) → Tokens bytes.now found → ⊥ }
+fn tokens_of(alloc: Global, text: &[u8]) -> Result<List<Token>, JobFault>
+    requires { length text.now ≤ 16777216 }
+    ensures ok { IfOk result (λ found. Tokens text.now found) }
+    ensures each { IfOk result (λ found. All (IsTokenOf text.now) found) }
+    ensures fault { IfErr result (λ fault. fault ≢ JobFault.Memory → FirstTextFault text.now fault) }
+    ensures only { IfErr result (λ fault. fault ≢ JobFault.Memory → (job : Job) → Denotes text.now job → ⊥) }
 {
-    match tokens(alloc, bytes) {
+    match tokens(alloc, text) {
         Ok(found) => Ok(found),
         Err(LexFault::Memory) => Err(JobFault::Memory),
-        Err(
-            LexFault::NotUtf8 { .. }
-            | LexFault::BadChar { .. }
-            | LexFault::NumberRange { .. }
-            | LexFault::NameLong { .. },
-        ) => Err(JobFault::NotBuilt),
+        Err(fault) => Err(JobFault::Lex(fault)),
     }
 }
 
-/// The job that the bytes denote. `NotBuilt` comes only where they denote none; want of memory is
-/// `Memory`.
+/// The job that the bytes denote.
+///
+/// # Errors
+///
+/// The first fault of the text: that it is too long, the first fault among its tokens, or the first
+/// token at fault. Want of memory is `Memory`.
 pub fn read_job(alloc: Global, bytes: &[u8]) -> Result<Job, JobFault>
     ensures ok { IfOk result (λ job. Denotes bytes.now job) }
     ensures limits { IfOk result (λ job. KeepsLimits job.grammar) }
-    ensures not_built { IsErrOf result JobFault.NotBuilt → (job : Job) → Denotes bytes.now job → ⊥ }
+    ensures fault { IfErr result (λ fault. fault ≢ JobFault.Memory → FirstTextFault bytes.now fault) }
+    ensures only { IfErr result (λ fault. fault ≢ JobFault.Memory → (job : Job) → Denotes bytes.now job → ⊥) }
 {
     if bytes.len() > TEXT_LIMIT {
-        return Err(JobFault::NotBuilt);
+        return Err(JobFault::TooLong);
     }
     let found = tokens_of(alloc, bytes)?;
-    derived(alloc, bytes, found.as_slice())
+    job_of(alloc, bytes, found.as_slice())
 }
 
 /// A text denotes at most one job.

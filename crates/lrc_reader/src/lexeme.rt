@@ -7,8 +7,9 @@ ghost use Rattle.lrc_reader.specs.Grammar as grammar;
 ghost use Rattle.lrc_reader.specs.Lexeme as spec;
 
 use crate::path_text::PathText;
+use crate::quoted_text::QuotedText;
 use lrc_base::NameText;
-use lrc_lex::{Token, TokenClass, natural};
+use lrc_lex::{Token, TokenClass, natural, negative};
 
 /// A reserved word or a symbol: what stands for nothing but itself.
 #[derive(Debug, Clone, Copy, PartialEq, Eq)]
@@ -101,9 +102,15 @@ pub enum Lexeme<'a> {
     Word(NameText),
     /// A natural by its value.
     Natural(i64),
+    /// A negative number by its value.
+    Negative(i64),
+    /// A name literal by its name, without the `'`.
+    Name(NameText),
+    /// A text in quotes by its spelling.
+    Text(QuotedText<'a>),
     /// A path by its text.
     Path(PathText<'a>),
-    /// A token of a class that no job of this form has.
+    /// A symbol that no job has.
     Other,
 }
 
@@ -128,6 +135,17 @@ pub fn mark_of(spelling: &[u8]) -> Option<Mark>
     mark_in(&MARKS, spelling)
 }
 
+/// The name of these bytes.
+fn name(bytes: &[u8]) -> NameText
+    requires { IsName bytes.now }
+    ensures { result ≡ bytes.now }
+{
+    match NameText::of(bytes) {
+        Some(name) => name,
+        None => unreachable!(),
+    }
+}
+
 /// A word by its spelling, reserved or not.
 fn word(spelling: &[u8]) -> Lexeme<'_>
     requires { IsName spelling.now }
@@ -136,10 +154,7 @@ fn word(spelling: &[u8]) -> Lexeme<'_>
     if let Some(mark) = mark_of(spelling) {
         return Lexeme::Mark(mark);
     }
-    match NameText::of(spelling) {
-        Some(name) => Lexeme::Word(name),
-        None => unreachable!(),
-    }
+    Lexeme::Word(name(spelling))
 }
 
 #[tactic(auto, unfolding(crate::specs::Lexeme::seen))]
@@ -157,7 +172,9 @@ pub fn lexeme_of(text: &[u8], token: Token) -> Lexeme<'_>
             None => Lexeme::Other,
         },
         TokenClass::Path => Lexeme::Path(PathText::of(spelling)),
-        TokenClass::Negative | TokenClass::NameLit | TokenClass::Text => Lexeme::Other,
+        TokenClass::Negative => Lexeme::Negative(negative(spelling)),
+        TokenClass::NameLit => Lexeme::Name(name(&spelling[1..])),
+        TokenClass::Text => Lexeme::Text(QuotedText::of(spelling)),
     }
 }
 
@@ -167,17 +184,29 @@ pub const WORD_KIND: u8 = 0;
 /// The kind of every natural.
 pub const NATURAL_KIND: u8 = 1;
 
+/// The kind of every negative number.
+pub const NEGATIVE_KIND: u8 = 2;
+
+/// The kind of every name literal.
+pub const NAME_KIND: u8 = 3;
+
+/// The kind of every text in quotes.
+pub const TEXT_KIND: u8 = 4;
+
 /// The kind of every path.
-pub const PATH_KIND: u8 = 2;
+pub const PATH_KIND: u8 = 5;
 
-/// The kind of what no job of this form has.
-pub const OTHER_KIND: u8 = 3;
+/// The kind of a symbol that no job has.
+pub const OTHER_KIND: u8 = 6;
 
-/// The number of a mark, from 4 on.
+/// The kind of the first mark; the others follow in order.
+pub const MARK_KIND: u8 = 7;
+
+/// The number of a mark, which is its kind.
 pub fn number_of(mark: Mark) -> u8
     ensures { result ≡ spec.number mark }
 {
-    mark as u8 + 4
+    mark as u8 + MARK_KIND
 }
 
 /// What a grammar tells lexemes by.
@@ -187,6 +216,9 @@ pub fn kind_of(lexeme: &Lexeme<'_>) -> u8
     match lexeme {
         Lexeme::Word(_) => WORD_KIND,
         Lexeme::Natural(_) => NATURAL_KIND,
+        Lexeme::Negative(_) => NEGATIVE_KIND,
+        Lexeme::Name(_) => NAME_KIND,
+        Lexeme::Text(_) => TEXT_KIND,
         Lexeme::Path(_) => PATH_KIND,
         Lexeme::Other => OTHER_KIND,
         Lexeme::Mark(mark) => number_of(*mark),
@@ -205,11 +237,11 @@ impl Lexeme<'_> {
     }
 
     /// The value of a natural.
-    pub fn value(&self) -> Option<i64>
-        ensures { result ≡ spec.natural_of self.now }
+    pub fn count(&self) -> Option<u64>
+        ensures { result ≡ grammar.count_of self.now }
     {
         match self {
-            Lexeme::Natural(value) => Some(*value),
+            Lexeme::Natural(value) => Some(value.unsigned_abs()),
             _ => None,
         }
     }

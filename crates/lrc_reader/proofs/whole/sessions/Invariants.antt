@@ -1,0 +1,10 @@
+use Rattle.std.proofs.Common.{◌≡◌, [], length}
+use Rattle.lrc_reader.specs.Reading.{read_sessions}
+use Rattle.lrc_reader.proofs.whole.sessions.Given as goal
+
+-- what is read from here on is what is read from the start
+abbrev pub invariant-more : goal.invariant-more
+invariant-more l = read_sessions 0 l.sessions l.cursor ≡ read_sessions 0 [] l.fn.cursor
+
+abbrev pub decreases-more : goal.decreases-more
+decreases-more l = length l.cursor

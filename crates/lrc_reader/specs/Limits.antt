@@ -1,0 +1,48 @@
+-- The limits of jobs. Each may be widened by the same number, its slack, which is 0 for the limits themselves.
+use Rattle.std.specs.Prelude.{◌≡◌, ℕ, ◌+◌}
+use Rattle.lrc_parse.specs.Reading.{Cause, limit}
+use Rattle.lrc_reader.specs.declared.fault.Limit.{Limit}
+use Rattle.lrc_reader.specs.declared.fault.Limit.TheVariants.{Sorts, Attributes, Productions, Children, Locals, Nodes, Sessions, Edits}
+
+abbrev pub sort_limit : ℕ → ℕ
+sort_limit slack = 64 + slack
+
+abbrev pub attribute_limit : ℕ → ℕ
+attribute_limit slack = 16 + slack
+
+abbrev pub production_limit : ℕ → ℕ
+production_limit slack = 256 + slack
+
+abbrev pub child_limit : ℕ → ℕ
+child_limit slack = 8 + slack
+
+-- locals and nonterminal attributes together
+abbrev pub local_limit : ℕ → ℕ
+local_limit slack = 16 + slack
+
+abbrev pub node_limit : ℕ → ℕ
+node_limit slack = 1000 + slack
+
+abbrev pub session_limit : ℕ → ℕ
+session_limit slack = 64 + slack
+
+abbrev pub edit_limit : ℕ → ℕ
+edit_limit slack = 10000 + slack
+
+-- expressions or terms within one another
+abbrev pub level_limit : ℕ → ℕ
+level_limit slack = 1000 + slack
+
+abbrev pub number_of : Limit → ℕ
+number_of Sorts = 0
+number_of Attributes = 1
+number_of Productions = 2
+number_of Children = 3
+number_of Locals = 4
+number_of Nodes = 5
+number_of Sessions = 6
+number_of Edits = 7
+
+-- that the limit is passed
+abbrev pub passing : Limit → Cause
+passing what = limit (number_of what)
