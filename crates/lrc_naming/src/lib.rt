@@ -16,7 +16,7 @@ mod tree;
 mod written;
 
 pub use grammar::{Numbered, named_grammar};
-pub use tree::named_tree;
+pub use tree::{named_tree, production_number};
 
 #[cfg(test)]
 mod tests;
