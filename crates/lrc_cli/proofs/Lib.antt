@@ -5,3 +5,4 @@ pub mod FaultLemmas
 pub mod RunLemmas
 pub mod OneLemmas
 pub mod PlainLemmas
+pub mod LimitLemmas

@@ -52,6 +52,7 @@ fn script_of(job: &Job) -> Option<&RawScript>
 }
 
 /// The grammar that is written; None where a name is unknown, or where it is not well formed.
+#[tactic(auto, using(crate::proofs::LimitLemmas::limits_are_kept))]
 fn grammar_from(alloc: Global, raw: &RawGrammar) -> Result<Option<Grammar>, Memory>
     requires { KeepsLimits raw.now }
     ensures grammar { IfOk result

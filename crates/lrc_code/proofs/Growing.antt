@@ -60,6 +60,7 @@ reads-then s t u a b = record {
     drawn = b.stays.drawn ∙ a.stays.drawn;
     pooled = b.stays.pooled ∙ a.stays.pooled;
     quota = b.stays.quota ∙ a.stays.quota;
+    identity = b.stays.identity ∙ a.stays.identity;
   };
   memo = b.memo ∙ a.memo;
   missed = b.missed ∙ a.missed;
@@ -107,6 +108,7 @@ adds-none s c = record {
   quota = quota-same s;
   memo = refl;
   missed = refl;
+  identity = refl;
 }
 
 -- a cell is built, and then one of which it is a part
@@ -123,6 +125,7 @@ adds-then s t u a c w f g = record {
   quota = quota-then s t u f.quota g.quota;
   memo = g.memo ∙ f.memo;
   missed = g.missed ∙ f.missed;
+  identity = g.identity ∙ f.identity;
 } where
   draws : DrawsPart s.drawn t.drawn a → DrawsPart t.drawn u.drawn c → DrawsPart s.drawn u.drawn c
   draws (inl e) (inl h) = inl (h ∙ e)

@@ -23,6 +23,7 @@ pub record AddsParts (s t : Standing) (cell : CellTree) : Type 0 where
   pub quota : KeepsQuota s t
   pub memo : t.memo ≡ s.memo
   pub missed : t.missed ≡ s.missed
+  pub identity : t.identity ≡ s.identity
 
 -- all rows are used, and some part of the cell is in none that is known
 abbrev pub Lacks : Standing → CellTree → Type 0

@@ -5,8 +5,8 @@ ghost use Rattle.lrc_code.specs.Forms.{are_productions_below};
 
 use crate::pairs::nil_in;
 use crate::{
-    CallParts, ResultParts, call_parts, kid_of, production_of, put_call, put_list, put_name,
-    put_node, put_result, put_term, result_parts,
+    CallParts, ResultParts, call_parts, kid_of, production_of, put_bool, put_call, put_list,
+    put_name, put_node, put_result, put_term, result_parts,
 };
 use lrc_base::{List, NameText, Term};
 use lrc_plain::PlainStore;
@@ -97,6 +97,18 @@ fn names_of_one_byte_and_of_nine(rt: HostRuntime) -> Result<(), Fail> {
     let put = put_name(&mut store, &long).is_ok();
     assert!(rt; put);
     assert_eq!(rt; store.published(), 6);
+    Ok(())
+}
+
+#[test]
+fn truth_values_are_two_cells(rt: HostRuntime) -> Result<(), Fail> {
+    let mut store = PlainStore::new(rt.alloc(), 2)?;
+    let no = put_bool(&mut store, false).ok();
+    let yes = put_bool(&mut store, true).ok();
+    let again = put_bool(&mut store, false).ok();
+    assert!(rt; no.is_some() && yes.is_some());
+    assert!(rt; no == again && no != yes);
+    assert_eq!(rt; store.published(), 2);
     Ok(())
 }
 

@@ -5,7 +5,7 @@ mod places;
 mod replacing;
 
 pub use places::kind_of;
-pub use replacing::{ReplaceFault, replaced};
+pub use replacing::{ReplaceFault, exchange, replace};
 
 #[cfg(test)]
 mod tests;

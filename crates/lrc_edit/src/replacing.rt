@@ -1,10 +1,12 @@
-ghost use Rattle.std.specs.Prelude.{◌≡◌, ◌≢◌, ◌↔◌, Some, None, IsTrue, IsSomeAnd, IfOk, OnOk, IsErrOf, map, length, if◌then◌else◌};
-ghost use Rattle.lrc_meaning.specs.Tree.{tree, row, at_place, replaced, replaced_among};
+ghost use Rattle.std.specs.Prelude.{◌≡◌, ◌≢◌, ◌<◌, ◌≤◌, ◌↔◌, Some, None, IsTrue, IsSomeAnd, IfOk, OnOk, OnErr, IsErrOf, option_map, slice_get, length, map};
+ghost use Rattle.std.specs.List.{insert};
+ghost use Rattle.lrc_meaning.specs.Tree.{tree, row, at_place, among, replaced, replaced_among};
 ghost use Rattle.lrc_edit.specs.Places.{are_numbers_below, kind_at};
 
 use crate::places::{kind_of, term_at};
 use lrc_base::{Kind, List, Memory, Path, Production, Term};
 use std::alloc::Global;
+use std::mem;
 
 /// Why no part of a tree was replaced.
 #[derive(Debug, Clone, Copy, PartialEq, Eq)]
@@ -27,85 +29,105 @@ impl From<Memory> for ReplaceFault {
     }
 }
 
-/// A copy of `kid`, with `with` at the place below it where it is on the path.
-#[cycle(replacing)]
-fn kid_replaced(
-    alloc: Global,
-    kid: &Term,
-    is_on_path: bool,
-    steps: &[u8],
-    with: &Term,
-) -> Result<Term, Memory>
-    ensures { IfOk result (λ copy. tree copy ≡ (if is_on_path then replaced (tree kid.now) steps.now (tree with.now) else tree kid.now)) }
+/// Puts a kid at a number, before the kids from there on.
+fn insert(kids: &mut List<Term>, at: usize, kid: Term) -> Result<(), Memory>
+    requires { at ≤ length kids.old }
+    ensures { OnOk result (kids.new ≡ insert kids.old at kid) }
 {
-    if is_on_path {
-        replaced_at(alloc, kid, steps, with)
-    } else {
-        kid.copy(alloc)
+    let later = kids.len() - at;
+    kids.push(kid)?;
+    for _kid in 0..later {
+        let next = kids.remove(at);
+        kids.push(next)?;
     }
+    Ok(())
 }
 
-/// Copies of the kids, with `with` at the place below the one that the first step names.
-#[cycle(replacing)]
-fn kids_replaced(
-    alloc: Global,
-    kids: &[Term],
-    step: u8,
+/// The kids with `with` at the place below the one that the first step names, and the term that was
+/// there.
+#[cycle(exchanging)]
+fn exchanged_among(
+    kids: List<Term>,
+    step: usize,
     steps: &[u8],
-    with: &Term,
-) -> Result<List<Term>, Memory>
-    ensures { IfOk result (λ copies. row (map tree copies) ≡ replaced_among (row (map tree kids.now)) step steps.now (tree with.now)) }
+    with: Term,
+) -> Result<(List<Term>, Option<Term>), Memory>
+    ensures tree { IfOk result (λ it. row (map tree it.0) ≡ replaced_among (row (map tree kids)) step steps.now (tree with)) }
+    ensures old { IfOk result (λ it. option_map tree it.1 ≡ among (row (map tree kids)) step steps.now) }
 {
-    let mut copies = Vec::with_capacity(alloc, kids.len())?;
-    for (at, kid) in kids.iter().enumerate() {
-        copies.push(kid_replaced(alloc, kid, at == step as usize, steps, with)?)?;
+    if step >= kids.len() {
+        return Ok((kids, None));
     }
-    Ok(List::from_vec(copies))
+    let mut kids = kids;
+    let (kid, old) = exchanged_at(kids.remove(step), steps, with)?;
+    insert(&mut kids, step, kid)?;
+    Ok((kids, old))
 }
 
-/// A copy of the term with `with` at the place; a plain copy where there is no such place.
-#[cycle(replacing)]
-fn replaced_at(alloc: Global, term: &Term, steps: &[u8], with: &Term) -> Result<Term, Memory>
-    ensures { IfOk result (λ copy. tree copy ≡ replaced (tree term.now) steps.now (tree with.now)) }
+/// The term with `with` at the place, and the term that was there; the term as it is where there is
+/// no such place.
+#[cycle(exchanging)]
+fn exchanged_at(term: Term, steps: &[u8], with: Term) -> Result<(Term, Option<Term>), Memory>
+    ensures tree { IfOk result (λ it. tree it.0 ≡ replaced (tree term) steps.now (tree with)) }
+    ensures old { IfOk result (λ it. option_map tree it.1 ≡ at_place (tree term) steps.now) }
 {
     let [step, rest @ ..] = steps else {
-        return with.copy(alloc);
+        return Ok((with, Some(term)));
     };
     match term {
-        Term::Int(_) | Term::Bool(_) | Term::Name(_) => term.copy(alloc),
         Term::Node(number, kids) => {
-            let kids = kids_replaced(alloc, kids.as_slice(), *step, rest, with)?;
-            Ok(Term::Node(*number, kids))
+            let (kids, old) = exchanged_among(kids, *step as usize, rest, with)?;
+            Ok((Term::Node(number, kids), old))
         }
+        Term::Int(_) | Term::Bool(_) | Term::Name(_) => Ok((term, None)),
     }
 }
 
-/// The term with `with`, which is of this kind, at a place.
+/// Exchanges the term at a place with another one, and answers it; None where there is no such place,
+/// and then the tree is as before.
 ///
-/// The faults are decided before anything is copied. Then each node of the result is made once, in
-/// time linear in the result.
+/// # Errors
+///
+/// Want of memory; the tree is any after it.
+pub fn exchange(term: &mut Term, path: &Path, with: Term) -> Result<Option<Term>, Memory>
+    ensures tree { OnOk result (tree term.new ≡ replaced (tree term.old) path.now.steps (tree with)) }
+    ensures old { IfOk result (λ old. option_map tree old ≡ at_place (tree term.old) path.now.steps) }
+{
+    let whole = mem::replace(term, Term::Int(0));
+    let (exchanged, old) = exchanged_at(whole, path.steps.as_slice(), with)?;
+    *term = exchanged;
+    Ok(old)
+}
+
+/// Replaces the term at a place by a copy of `with`, which is of this kind, and answers it.
+///
+/// The faults are decided before anything is copied or changed. The time is linear in `with`, the path
+/// and the numbers of children along it.
 ///
 /// # Errors
 ///
 /// `BadPath` where the path names no place, `WrongSort` where the term at the place is of another
-/// kind, and want of memory.
-pub fn replaced(
+/// kind; the tree is then left as it is. After want of memory it is any.
+pub fn replace(
     alloc: Global,
     prods: &List<Production>,
-    term: &Term,
+    term: &mut Term,
     path: &Path,
     kind: Kind,
     with: &Term,
 ) -> Result<Term, ReplaceFault>
-    requires { IsTrue (are_numbers_below (length prods.now) (tree term.now)) }
-    ensures ok { IfOk result (λ copy. tree copy ≡ replaced (tree term.now) path.now.steps (tree with.now)) }
-    ensures fits { OnOk result (kind_at prods.now (tree term.now) path.now.steps ≡ Some kind) }
-    ensures bad_path { IsErrOf result ReplaceFault.BadPath ↔ (at_place (tree term.now) path.now.steps ≡ None) }
-    ensures wrong_sort { IsErrOf result ReplaceFault.WrongSort ↔ IsSomeAnd (kind_at prods.now (tree term.now) path.now.steps) (λ found. found ≢ kind) }
+    requires { IsTrue (are_numbers_below (length prods.now) (tree term.old)) }
+    ensures ok { OnOk result (tree term.new ≡ replaced (tree term.old) path.now.steps (tree with.now)) }
+    ensures old { IfOk result (λ old. at_place (tree term.old) path.now.steps ≡ Some (tree old)) }
+    ensures fits { OnOk result (kind_at prods.now (tree term.old) path.now.steps ≡ Some kind) }
+    ensures bad_path { IsErrOf result ReplaceFault.BadPath ↔ (at_place (tree term.old) path.now.steps ≡ None) }
+    ensures wrong_sort { IsErrOf result ReplaceFault.WrongSort ↔ IsSomeAnd (kind_at prods.now (tree term.old) path.now.steps) (λ found. found ≢ kind) }
+    ensures bad_path_kept { IsErrOf result ReplaceFault.BadPath → term.new ≡ term.old }
+    ensures wrong_sort_kept { IsErrOf result ReplaceFault.WrongSort → term.new ≡ term.old }
 {
     let found = term_at(term, path.steps.as_slice()).ok_or(ReplaceFault::BadPath)?;
     if kind_of(prods, found) != kind {
         return Err(ReplaceFault::WrongSort);
     }
-    Ok(replaced_at(alloc, term, path.steps.as_slice(), with)?)
+    exchange(term, path, with.copy(alloc)?)?.ok_or(ReplaceFault::BadPath)
 }

@@ -2,7 +2,7 @@
 ghost use Rattle.std.specs.Prelude.{◌≡◌, IfOk};
 ghost use Rattle.lrc_meaning.specs.Tree.{int, node, none, more, tree};
 
-use crate::{kind_of, replaced};
+use crate::{exchange, kind_of, replace};
 use lrc_base::{Kind, List, NameText, Path, Production, Term};
 use std::alloc::Global;
 use std::test::Fail;
@@ -40,23 +40,30 @@ fn add(alloc: Global, left: i64, right: i64) -> Result<Term, Fail>
     Ok(Term::Node(ADD, List::from_vec(kids)))
 }
 
+fn shown(alloc: Global, term: &Term) -> Result<String, Fail> {
+    Ok(format!(in alloc; "{term:?}")?)
+}
+
 #[test]
-fn replaces_the_second_number(rt: HostRuntime) -> Result<(), Fail> {
+fn replaces_the_second_number_and_puts_it_back(rt: HostRuntime) -> Result<(), Fail> {
     let alloc = rt.alloc();
     let named = vec![in alloc; production(alloc, b"Num")?, production(alloc, b"Add")?]?;
     let prods = List::from_vec(named);
-    let sum = add(alloc, 1, 2)?;
+    let mut sum = add(alloc, 1, 2)?;
     assert_eq!(rt; kind_of(&prods, &sum), Kind::Sort(0));
+    let before = shown(alloc, &sum)?;
     let second = Path {
         steps: List::from_vec(vec![in alloc; 1]?),
     };
-    let new = num(alloc, 3)?;
-    let changed = replaced(alloc, &prods, &sum, &second, Kind::Sort(0), &new).map_err(
+    let three = num(alloc, 3)?;
+    let two = replace(alloc, &prods, &mut sum, &second, Kind::Sort(0), &three).map_err(
         |_| "no place, no kind or no memory",
     )?;
-    let wanted = add(alloc, 1, 3)?;
-    let shown = format!(in alloc; "{changed:?}")?;
-    let expected = format!(in alloc; "{wanted:?}")?;
-    assert_eq!(rt; shown.as_str(), expected.as_str());
+    let now = shown(alloc, &sum)?;
+    let expected = shown(alloc, &add(alloc, 1, 3)?)?;
+    assert_eq!(rt; now.as_str(), expected.as_str());
+    exchange(&mut sum, &second, two)?;
+    let after = shown(alloc, &sum)?;
+    assert_eq!(rt; after.as_str(), before.as_str());
     Ok(())
 }

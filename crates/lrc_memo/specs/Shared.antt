@@ -1,12 +1,11 @@
 -- A store over a pass of a shared table.
-use Rattle.std.specs.Prelude.{ℕ, ◌≡◌, ◌≢◌, ◌<◌, ◌≤◌, ◌^◌, refl}
+use Rattle.std.specs.Prelude.{ℕ, List, ◌≡◌, ◌≢◌, ◌<◌, ◌≤◌, ◌^◌, refl}
 use Rattle.std.specs.Coded.{Coded, code_by, coded_ℕ, coded×}
 use Rattle.lrc_store.specs.Standing.{Standing}
 use Rattle.lrc_store.specs.declared.stores.Recall.{Recall}
 use Rattle.lrc_store.specs.declared.stores.Recall.TheVariants as recall
 use Rattle.lrc_rule.specs.Memo.{pair_word}
-use Rattle.lrc_rule.specs.Views.{View}
-use Rattle.lrc_table.specs.Passes.{TableView, PassView, coded_table_view, coded_pass_view}
+use Rattle.lrc_table.specs.Passes.{TableView, PassView, coded_table_view, coded_pass_view, identity}
 use Rattle.lrc_table.specs.Standings.{standing}
 
 -- the pass, its table, and how many recalls found nothing
@@ -20,12 +19,16 @@ coded_shared {M} m =
     code_by (PassView × (TableView M × ℕ)) (coded× coded_pass_view (coded× (coded_table_view m) coded_ℕ)) (λ s. (s.pass, (s.table, s.missed)))
     (λ p. record { pass = p.0; table = p.1.0; missed = p.1.1 }) (λ _. refl)
 
-abbrev pub with_missed : Standing → ℕ → Standing
-with_missed s missed = record s { missed = missed }
+abbrev pub with_own : Standing → ℕ → List ℕ → Standing
+with_own s missed identity = record s { missed = missed; identity = identity }
 
 -- it stands for what its pass does: it tells what is in the table for good, and no memo
-abbrev pub shared_standing : View → ℕ → Standing
-shared_standing v missed = with_missed (standing v) missed
+abbrev pub shared_standing : {M : Type 0} → Shared M → Standing
+shared_standing s = with_own (standing s.pass.view) s.missed (identity s.table)
+
+-- the cells of the store lie in this table
+abbrev pub LiesIn : {M : Type 0} → Standing → TableView M → Type 0
+LiesIn s t = s.identity ≡ identity t
 
 -- the word pairs the call with no result
 abbrev pub NamesNot : ℕ → ℕ → Type 0

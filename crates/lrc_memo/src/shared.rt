@@ -3,10 +3,10 @@ ghost use Rattle.lrc_store.specs.Cells.{CellTree, number, pair, IsWithin};
 ghost use Rattle.lrc_store.specs.Standing.{IsKnown, Told, meant};
 ghost use Rattle.lrc_store.specs.Words.{Puts, Reads, Stays, Shows, Recalls, Remembers};
 ghost use Rattle.lrc_rule.specs.Memo.{pair_word, memo_load, memo_store, memo_clear};
-ghost use Rattle.lrc_table.specs.Passes.{IsOf};
+ghost use Rattle.lrc_table.specs.Passes.{TableView, IsOf};
 ghost use Rattle.lrc_table.specs.Memo.{IsKnownWord};
-ghost use Rattle.lrc_table.specs.Standings.{IsNoted, standing};
-ghost use Rattle.lrc_memo.specs.Shared.{shared_standing, Names, NamesNot, Answers};
+ghost use Rattle.lrc_table.specs.Standings.{NotesOnly, IsNoted, standing};
+ghost use Rattle.lrc_memo.specs.Shared.{shared_standing, LiesIn, Names, NamesNot, Answers};
 
 use lrc_rule::place;
 use lrc_store::{Cell, Full, Handle, Meaning, Recall, Store};
@@ -36,15 +36,18 @@ impl<'a, M: Meaning> Model for SharedStore<'a, M> {
 }
 
 /// The result that the word pairs with the call.
+#[tactic(auto, using(crate::proofs::Recalling::names_not_zero, crate::proofs::Recalling::names_not_other))]
 fn outcome_in(word: u64, call: Handle) -> Option<Handle>
     ensures { MatchOption result (NamesNot call.0 word) (λ handle. Names call.0 handle.0 word) }
 {
-    let outcome = word % (1 << 32);
-    if word != 0 && word / (1 << 32) == u64::from(call.0) {
-        Some(Handle(outcome as u32))
-    } else {
-        None
+    if word == 0 {
+        return None;
     }
+    if word / (1 << 32) != u64::from(call.0) {
+        return None;
+    }
+    let outcome = word % (1 << 32);
+    Some(Handle(outcome as u32))
 }
 
 impl<'a, M: Meaning> SharedStore<'a, M> {
@@ -53,6 +56,7 @@ impl<'a, M: Meaning> SharedStore<'a, M> {
         requires { IsOf pass table.now }
         ensures parts { (result.pass ≡ pass) × (result.table ≡ table.now) }
         ensures missed { result.missed ≡ 0 }
+        ensures lies { LiesIn (shared_standing result) table.now }
     {
         SharedStore {
             table,
@@ -65,6 +69,7 @@ impl<'a, M: Meaning> SharedStore<'a, M> {
     pub fn into_pass(self) -> Pass<M>
         ensures pass { result ≡ self.entry.pass }
         ensures of { IsOf result self.entry.table }
+        ensures of_equal { (table : TableView M) → LiesIn (shared_standing self.entry) table → IsOf result table }
     {
         let SharedStore {
             table: _,
@@ -76,7 +81,8 @@ impl<'a, M: Meaning> SharedStore<'a, M> {
 
     /// Stores 0 in the memo word at the place, counted round where there are fewer.
     pub fn evict(&mut self, place: u64)
-        ensures reads { Reads (shared_standing self.old.pass.view self.old.missed) (shared_standing self.new.pass.view self.new.missed) }
+        ensures reads { Reads (shared_standing self.old) (shared_standing self.new) }
+        ensures notes { self.new.pass.view.learned.notes ≡ self.old.pass.view.learned.notes }
         ensures step { self.new.pass.view.learned.memo_steps ≡ self.old.pass.view.learned.memo_steps ++ memo_clear (place % self.old.table.layout.memo) ∷ [] }
         ensures same_table { self.new.table ≡ self.old.table }
     {
@@ -94,25 +100,27 @@ impl<'a, M: Meaning> SharedStore<'a, M> {
 
     /// The word at the place of a call.
     fn word_of(&mut self, call: Handle) -> u64
-        ensures reads { Reads (shared_standing self.old.pass.view self.old.missed) (shared_standing self.new.pass.view self.new.missed) }
+        ensures reads { Reads (shared_standing self.old) (shared_standing self.new) }
+        ensures notes { self.new.pass.view.learned.notes ≡ self.old.pass.view.learned.notes }
         ensures step { self.new.pass.view.learned.memo_steps ≡ self.old.pass.view.learned.memo_steps ++ memo_load (call.0 % self.old.table.layout.memo) result ∷ [] }
         ensures word { IsKnownWord (M.allows self.old.table.meaning) (M.reach self.old.table.meaning) (standing self.new.pass.view) result }
         ensures same_table { self.new.table ≡ self.old.table }
     {
-        self.pass
-            .load_memo(self.table, place(call, self.table.memo_words()))
+        let words = self.table.memo_words();
+        self.pass.load_memo(self.table, place(call, words))
     }
 }
 
 impl<'a, N: Meaning> Store for SharedStore<'a, N> {
     type M = N;
 
-    ghost state = { λ s. shared_standing s.pass.view s.missed };
+    ghost state = { λ s. shared_standing s };
 
     ghost meaning = { λ s. s.table.meaning };
 
     fn int(&mut self, value: i64) -> Result<Handle, Full>
-        ensures puts { Puts (shared_standing self.old.pass.view self.old.missed) (shared_standing self.new.pass.view self.new.missed) (number value) result }
+        ensures puts { Puts (shared_standing self.old) (shared_standing self.new) (number value) result }
+        ensures notes { NotesOnly self.old.pass.view self.new.pass.view (number value) }
         ensures noted { IsNoted self.old.pass.view self.new.pass.view (number value) result }
         ensures no_step { self.new.pass.view.learned.memo_steps ≡ self.old.pass.view.learned.memo_steps }
         ensures same_table { self.new.table ≡ self.old.table }
@@ -124,10 +132,11 @@ impl<'a, N: Meaning> Store for SharedStore<'a, N> {
     fn cell(&mut self, tag: u32, left: Handle, right: Handle) -> Result<Handle, Full>
         requires tag_from { 1 ≤ tag }
         requires tag_to { tag ≤ 65535 }
-        requires left_known { IsKnown (shared_standing self.old.pass.view self.old.missed) left.0 }
-        requires right_known { IsKnown (shared_standing self.old.pass.view self.old.missed) right.0 }
-        ensures puts { let s = shared_standing self.old.pass.view self.old.missed in Puts s (shared_standing self.new.pass.view self.new.missed) (pair tag (meant s left.0) (meant s right.0)) result }
-        ensures noted { let s = shared_standing self.old.pass.view self.old.missed in IsNoted self.old.pass.view self.new.pass.view (pair tag (meant s left.0) (meant s right.0)) result }
+        requires left_known { IsKnown (shared_standing self.old) left.0 }
+        requires right_known { IsKnown (shared_standing self.old) right.0 }
+        ensures puts { let s = shared_standing self.old in Puts s (shared_standing self.new) (pair tag (meant s left.0) (meant s right.0)) result }
+        ensures notes { let s = shared_standing self.old in NotesOnly self.old.pass.view self.new.pass.view (pair tag (meant s left.0) (meant s right.0)) }
+        ensures noted { let s = shared_standing self.old in IsNoted self.old.pass.view self.new.pass.view (pair tag (meant s left.0) (meant s right.0)) result }
         ensures no_step { self.new.pass.view.learned.memo_steps ≡ self.old.pass.view.learned.memo_steps }
         ensures same_table { self.new.table ≡ self.old.table }
         ensures same_meaning { self.new.table.meaning ≡ self.old.table.meaning }
@@ -136,9 +145,10 @@ impl<'a, N: Meaning> Store for SharedStore<'a, N> {
     }
 
     fn look(&mut self, handle: Handle) -> Cell
-        requires { IsKnown (shared_standing self.old.pass.view self.old.missed) handle.0 }
-        ensures shows { Shows (shared_standing self.new.pass.view self.new.missed) result (meant (shared_standing self.old.pass.view self.old.missed) handle.0) }
-        ensures reads { Reads (shared_standing self.old.pass.view self.old.missed) (shared_standing self.new.pass.view self.new.missed) }
+        requires { IsKnown (shared_standing self.old) handle.0 }
+        ensures shows { Shows (shared_standing self.new) result (meant (shared_standing self.old) handle.0) }
+        ensures reads { Reads (shared_standing self.old) (shared_standing self.new) }
+        ensures notes { self.new.pass.view.learned.notes ≡ self.old.pass.view.learned.notes }
         ensures no_step { self.new.pass.view.learned.memo_steps ≡ self.old.pass.view.learned.memo_steps }
         ensures same_table { self.new.table ≡ self.old.table }
         ensures same_meaning { self.new.table.meaning ≡ self.old.table.meaning }
@@ -151,10 +161,11 @@ impl<'a, N: Meaning> Store for SharedStore<'a, N> {
     }
 
     fn recall(&mut self, call: Handle) -> Recall
-        requires { IsKnown (shared_standing self.old.pass.view self.old.missed) call.0 }
-        ensures stays { Stays (shared_standing self.old.pass.view self.old.missed) (shared_standing self.new.pass.view self.new.missed) }
-        ensures same_memo { (shared_standing self.new.pass.view self.new.missed).memo ≡ (shared_standing self.old.pass.view self.old.missed).memo }
-        ensures answers { let s = shared_standing self.old.pass.view self.old.missed in Recalls (N.allows self.old.table.meaning) (N.reach self.old.table.meaning) s (shared_standing self.new.pass.view self.new.missed) (meant s call.0) result }
+        requires { IsKnown (shared_standing self.old) call.0 }
+        ensures stays { Stays (shared_standing self.old) (shared_standing self.new) }
+        ensures same_memo { (shared_standing self.new).memo ≡ (shared_standing self.old).memo }
+        ensures answers { let s = shared_standing self.old in Recalls (N.allows self.old.table.meaning) (N.reach self.old.table.meaning) s (shared_standing self.new) (meant s call.0) result }
+        ensures notes { self.new.pass.view.learned.notes ≡ self.old.pass.view.learned.notes }
         ensures step { (word : ℕ) × (self.new.pass.view.learned.memo_steps ≡ self.old.pass.view.learned.memo_steps ++ memo_load (call.0 % self.old.table.layout.memo) word ∷ []) × Answers call.0 word result }
         ensures same_table { self.new.table ≡ self.old.table }
         ensures same_meaning { self.new.table.meaning ≡ self.old.table.meaning }
@@ -170,13 +181,14 @@ impl<'a, N: Meaning> Store for SharedStore<'a, N> {
     }
 
     fn remember(&mut self, call: Handle, outcome: Handle)
-        requires call_known { IsKnown (shared_standing self.old.pass.view self.old.missed) call.0 }
-        requires outcome_known { IsKnown (shared_standing self.old.pass.view self.old.missed) outcome.0 }
-        requires allowed { let s = shared_standing self.old.pass.view self.old.missed in N.allows self.old.table.meaning (meant s call.0) (meant s outcome.0) }
-        requires reached { let s = shared_standing self.old.pass.view self.old.missed in Told s.seen (IsWithin (N.reach self.old.table.meaning (meant s call.0) (meant s outcome.0))) }
-        ensures stays { Stays (shared_standing self.old.pass.view self.old.missed) (shared_standing self.new.pass.view self.new.missed) }
-        ensures same_missed { (shared_standing self.new.pass.view self.new.missed).missed ≡ (shared_standing self.old.pass.view self.old.missed).missed }
-        ensures gains { let s = shared_standing self.old.pass.view self.old.missed in Remembers s.memo (shared_standing self.new.pass.view self.new.missed).memo (meant s call.0) (meant s outcome.0) }
+        requires call_known { IsKnown (shared_standing self.old) call.0 }
+        requires outcome_known { IsKnown (shared_standing self.old) outcome.0 }
+        requires allowed { let s = shared_standing self.old in N.allows self.old.table.meaning (meant s call.0) (meant s outcome.0) }
+        requires reached { let s = shared_standing self.old in Told s.seen (IsWithin (N.reach self.old.table.meaning (meant s call.0) (meant s outcome.0))) }
+        ensures stays { Stays (shared_standing self.old) (shared_standing self.new) }
+        ensures same_missed { (shared_standing self.new).missed ≡ (shared_standing self.old).missed }
+        ensures gains { let s = shared_standing self.old in Remembers s.memo (shared_standing self.new).memo (meant s call.0) (meant s outcome.0) }
+        ensures notes { self.new.pass.view.learned.notes ≡ self.old.pass.view.learned.notes }
         ensures step { self.new.pass.view.learned.memo_steps ≡ self.old.pass.view.learned.memo_steps ++ memo_store (call.0 % self.old.table.layout.memo) (pair_word call.0 outcome.0) ∷ [] }
         ensures same_table { self.new.table ≡ self.old.table }
         ensures same_meaning { self.new.table.meaning ≡ self.old.table.meaning }
@@ -186,7 +198,8 @@ impl<'a, N: Meaning> Store for SharedStore<'a, N> {
     }
 
     fn forget(&mut self, place: u64)
-        ensures reads { Reads (shared_standing self.old.pass.view self.old.missed) (shared_standing self.new.pass.view self.new.missed) }
+        ensures reads { Reads (shared_standing self.old) (shared_standing self.new) }
+        ensures notes { self.new.pass.view.learned.notes ≡ self.old.pass.view.learned.notes }
         ensures step { self.new.pass.view.learned.memo_steps ≡ self.old.pass.view.learned.memo_steps ++ memo_clear (place % self.old.table.layout.memo) ∷ [] }
         ensures same_table { self.new.table ≡ self.old.table }
         ensures same_meaning { self.new.table.meaning ≡ self.old.table.meaning }

@@ -26,4 +26,4 @@ pub use faults::OrderFault;
 pub use induce::{Tables, acyclic_induced};
 pub use order_test::{ordered, ordered_with};
 pub use partitions::Partitions;
-pub use small::{are_given_there, few_is_small, is_small};
+pub use small::{are_given_there, few_is_small};

@@ -1,6 +1,6 @@
 ghost use Rattle.std.specs.Prelude.{◌≡◌, [], All, IfOk, OnOk, IfErr};
 ghost use Rattle.lrc_grammar.specs.Grammar.{grammar_of};
-ghost use Rattle.lrc_order.specs.Ordered.{IsSmall, IsGivenThere, IsOrdered, ArePartitions};
+ghost use Rattle.lrc_order.specs.Ordered.{IsGivenThere, IsOrdered, ArePartitions};
 ghost use Rattle.lrc_ordered.specs.Faults.{IsOrderFault};
 
 use crate::cycles::first_cycle;
@@ -25,8 +25,7 @@ pub fn ordered_with(
     grammar: &Grammar,
     given: &List<Given>,
 ) -> Result<Partitions, OrderFault>
-    requires small { IsSmall (grammar_of grammar.now) }
-    requires there { All (IsGivenThere grammar.now.sorts) given.now }
+    requires { All (IsGivenThere grammar.now.sorts) given.now }
     ensures ordered { OnOk result (IsOrdered (grammar_of grammar.now) given.now) }
     ensures given { IfOk result (λ found. found.given ≡ given.now) }
     ensures partitions { IfOk result (λ found. ArePartitions (grammar_of grammar.now) found) }
@@ -52,7 +51,6 @@ pub fn ordered_with(
 ///
 /// As [`ordered_with`].
 pub fn ordered(alloc: Global, grammar: &Grammar) -> Result<Partitions, OrderFault>
-    requires { IsSmall (grammar_of grammar.now) }
     ensures ordered { OnOk result (IsOrdered (grammar_of grammar.now) []) }
     ensures given { IfOk result (λ found. found.given ≡ []) }
     ensures partitions { IfOk result (λ found. ArePartitions (grammar_of grammar.now) found) }

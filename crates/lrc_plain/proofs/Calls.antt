@@ -10,7 +10,7 @@ use Rattle.lrc_store.specs.declared.cells.Handle.{Handle}
 use Rattle.lrc_store.specs.declared.stores.Full.{Full}
 use Rattle.lrc_plain.specs.Shelf.{Shelf, at, IsNamed, IsShelf, IsPlaced, IsFullOf}
 use Rattle.lrc_plain.specs.Rows.{whole, IsFor, IsOver}
-use Rattle.lrc_plain.specs.Plain.{Plain, pairs, standing, outcome, IsMemo, IsFullAt}
+use Rattle.lrc_plain.specs.Plain.{Plain, pairs, standing, state_of, outcome, IsMemo, IsFullAt}
 use Rattle.lrc_plain.proofs.RowLemmas.{at-push, below, whole-not_nil}
 use Rattle.lrc_plain.proofs.Lists.{contains-left, named-contained, named-cases, row-of_pair, pair-of_row}
 use Rattle.lrc_plain.proofs.Standings.{IsGrown, known-within, within-known, meant-at, adds, tells, full}
@@ -73,28 +73,28 @@ pub puts-seen : {M : Type 0} (v now : Plain M) (t : Shelf) (form : Cell) (answer
     ((i : ℕ) → length v.shelf.cells ≤ i → i < length v.outcomes → get_or v.outcomes i 0 ≡ 0) →
     ((i : ℕ) → i < length v.outcomes → get_or v.outcomes i 0 ≤ length v.shelf.cells) →
     t.quota ≡ v.shelf.quota → IsShelf t → IfOk answer (λ handle. IsPlaced v.shelf t (whole v.shelf.cells form) handle.0) → OnErr answer (IsFullOf v.shelf t (whole v.shelf.cells form)) →
-    Puts (standing now.shelf now.outcomes now.missed) (standing t v.outcomes v.missed) (whole now.shelf.cells form) answer
+    Puts (state_of now) (standing t v.outcomes v.missed) (whole now.shelf.cells form) answer
 puts-seen {M} v now t form answer e rest known quota k ok err =
-    let P : Plain M → Type 0 = λ n. Puts (standing n.shelf n.outcomes n.missed) (standing t v.outcomes v.missed) (whole n.shelf.cells form) answer in
+    let P : Plain M → Type 0 = λ n. Puts (state_of n) (standing t v.outcomes v.missed) (whole n.shelf.cells form) answer in
     subst P e (puts v.shelf t (whole v.shelf.cells form) v.outcomes v.missed answer rest known quota k ok err)
 
-exact : (s t : Shelf) (c : CellTree) (answer : Result Handle Full) → (nil ≡ c → ⊥) → IfOk answer (λ handle. IsPlaced s t c handle.0) → OnErr answer (IsFullOf s t c) → IsErr answer ↔ IsFullAt s c
-exact s t c (Err e) some ok err = ((λ _. record { absent = λ h. err.unnamed (named-contained s.cells c h); used = err.used }), (λ _. refl))
-exact s t c (Ok handle) some ok err = ((λ never. cc), (λ f. absurd (over ok.cells f))) where
-  absent : (nil ≡ c) ⊎ Contains s.cells c → IsFullAt s c → ⊥
+exact : (s t : Shelf) (outcomes : List ℕ) (missed : ℕ) (c : CellTree) (answer : Result Handle Full) → (nil ≡ c → ⊥) → IfOk answer (λ handle. IsPlaced s t c handle.0) → OnErr answer (IsFullOf s t c) → IsErr answer ↔ IsFullAt (standing s outcomes missed) c
+exact s t outcomes missed c (Err e) some ok err = ((λ _. record { absent = λ h. err.unnamed (named-contained s.cells c h); used = err.used }), (λ _. refl))
+exact s t outcomes missed c (Ok handle) some ok err = ((λ never. cc), (λ f. absurd (over ok.cells f))) where
+  absent : (nil ≡ c) ⊎ Contains s.cells c → IsFullAt (standing s outcomes missed) c → ⊥
   absent (inl n) f = some n
   absent (inr h) f = f.absent h
 
-  over : (IsNamed s.cells c × (t.cells ≡ s.cells)) ⊎ ((¬ IsNamed s.cells c) × (length s.cells < s.quota) × (t.cells ≡ s.cells ++ c ∷ [])) → IsFullAt s c → ⊥
+  over : (IsNamed s.cells c × (t.cells ≡ s.cells)) ⊎ ((¬ IsNamed s.cells c) × (length s.cells < s.quota) × (t.cells ≡ s.cells ++ c ∷ [])) → IsFullAt (standing s outcomes missed) c → ⊥
   over (inl a) f = absent (named-cases s.cells c a.0) f
   over (inr b) f = omega (arith, b.1, f.used)
 
 pub exact-seen : {M : Type 0} (v now : Plain M) (t : Shelf) (form : Cell) (n : ℕ) (answer : Result Handle Full) → v ≡ now → IsFor n form →
     IfOk answer (λ handle. IsPlaced v.shelf t (whole v.shelf.cells form) handle.0) → OnErr answer (IsFullOf v.shelf t (whole v.shelf.cells form)) →
-    IsErr answer ↔ IsFullAt now.shelf (whole now.shelf.cells form)
+    IsErr answer ↔ IsFullAt (state_of now) (whole now.shelf.cells form)
 exact-seen {M} v now t form n answer e h ok err =
-    let P : Plain M → Type 0 = λ p. IsErr answer ↔ IsFullAt p.shelf (whole p.shelf.cells form) in
-    subst P e (exact v.shelf t (whole v.shelf.cells form) answer (whole-not_nil v.shelf.cells n form h) ok err)
+    let P : Plain M → Type 0 = λ p. IsErr answer ↔ IsFullAt (state_of p) (whole p.shelf.cells form) in
+    subst P e (exact v.shelf t v.outcomes v.missed (whole v.shelf.cells form) answer (whole-not_nil v.shelf.cells n form h) ok err)
 
 -- what is kept of calls stands after a row more
 memo-more : (allows : CellTree → CellTree → Type 0) (reach : CellTree → CellTree → List CellTree) (s t : Shelf) (c : CellTree) (outcomes : List ℕ) →

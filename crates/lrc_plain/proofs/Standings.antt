@@ -97,6 +97,7 @@ adds s t c outcomes missed rest known quota grown = record {
   quota = record { pooled = refl; at_most = omega (arith, quota); fixed = λ _. quota };
   memo = ap (λ m. Some m) (pairs-grown s t c outcomes rest known grown);
   missed = refl;
+  identity = refl;
 }
 
 pub tells : (t : Shelf) (handle : ℕ) (c : CellTree) (outcomes : List ℕ) (missed : ℕ) → IsShelf t → handle ≤ length t.cells → at t.cells handle ≡ c →

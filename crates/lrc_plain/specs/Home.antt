@@ -1,5 +1,5 @@
 -- Where a cell belongs in an index.
-use Rattle.std.specs.Prelude.{ℕ, ◌+◌, ◌*◌, ◌/◌, ◌%◌, ◌^◌, bit_xor}
+use Rattle.std.specs.Prelude.{ℕ, ◌≡◌, ◌<◌, ◌+◌, ◌*◌, ◌/◌, ◌%◌, ◌^◌, bit_xor}
 use Rattle.std.specs.Int.{cast_unsigned, w64}
 use Rattle.lrc_store.specs.declared.cells.Cell.{Cell}
 use Rattle.lrc_store.specs.declared.cells.Cell.TheVariants as cell
@@ -16,3 +16,8 @@ unfoldable pub home_of : Cell → ℕ → ℕ
 home_of cell.Nil buckets = mixed 0 0 0 % buckets
 home_of (cell.Number value) buckets = mixed 0 (cast_unsigned w64 value) 0 % buckets
 home_of (cell.Pair tag left right) buckets = mixed tag left.0 right.0 % buckets
+
+-- this is the bucket of the cell
+pub record IsBucketOf (bucket : ℕ) (cell : Cell) (buckets : ℕ) : Type 0 where
+  pub home : bucket ≡ home_of cell buckets
+  pub within : bucket < buckets

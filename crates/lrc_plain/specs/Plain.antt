@@ -24,7 +24,7 @@ pairs all (cell ∷ cells) [] = []
 pairs all (cell ∷ cells) (zero ∷ outcomes) = pairs all cells outcomes
 pairs all (cell ∷ cells) (suc handle ∷ outcomes) = (cell, at all (suc handle)) ∷ pairs all cells outcomes
 
--- what such a store stands for: it tells its memo, and forgets nothing
+-- what such rows and results stand for: the memo is told, and nothing is forgotten
 abbrev pub standing : Shelf → List ℕ → ℕ → Standing
 standing shelf outcomes missed = record {
   known = slice_get (nil ∷ shelf.cells);
@@ -35,7 +35,14 @@ standing shelf outcomes missed = record {
   memo = Some (pairs shelf.cells shelf.cells outcomes);
   seen = Some shelf.cells;
   missed = missed;
+  identity = [];
 }
+
+abbrev pub state_of : {M : Type 0} → Plain M → Standing
+state_of store = standing store.shelf store.outcomes store.missed
+
+abbrev pub meaning_of : {M : Type 0} → Plain M → M
+meaning_of store = store.meaning
 
 -- the handle that is kept for a handle, or 0
 abbrev pub outcome : List ℕ → ℕ → ℕ
@@ -58,6 +65,6 @@ pub record IsNew (s : Standing) (rows : ℕ) : Type 0 where
   pub quota : s.quota ≡ rows
 
 -- the cell is in no row, and all rows are used
-pub record IsFullAt (s : Shelf) (cell : CellTree) : Type 0 where
-  pub absent : ¬ Contains s.cells cell
-  pub used : length s.cells ≡ s.quota
+pub record IsFullAt (s : Standing) (cell : CellTree) : Type 0 where
+  pub absent : ¬ Contains s.made cell
+  pub used : length s.made ≡ s.quota

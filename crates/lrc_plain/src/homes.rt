@@ -1,10 +1,11 @@
 ghost use Rattle.std.specs.Prelude.{◌≡◌, ◌<◌};
-ghost use Rattle.lrc_plain.specs.Home.{mixed, home_of};
+ghost use Rattle.lrc_plain.specs.Home.{mixed, IsBucketOf};
 
 use lrc_store::Cell;
 
 /// Mixes three words, so that close ones part.
 #[tactic(auto, unfolding(crate::specs::Home::mixed))]
+#[inline(always)]
 fn mix(tag: u64, one: u64, other: u64) -> u64
     ensures { result ≡ mixed tag one other }
 {
@@ -19,10 +20,10 @@ fn mix(tag: u64, one: u64, other: u64) -> u64
 
 /// The bucket of a cell among this many.
 #[tactic(auto, unfolding(crate::specs::Home::home_of))]
+#[inline(always)]
 pub fn home(cell: Cell, buckets: usize) -> usize
     requires { 0 < buckets }
-    ensures value { result ≡ home_of cell buckets }
-    ensures within { result < buckets }
+    ensures { IsBucketOf result cell buckets }
 {
     let mixed = match cell {
         Cell::Nil => mix(0, 0, 0),

@@ -4,7 +4,7 @@ ghost use Rattle.lrc_store.specs.Standing.{Standing, IsSound, IsKnown, Told, mea
 ghost use Rattle.lrc_store.specs.Words.{Puts, Reads, Stays, Shows, Recalls, Remembers};
 ghost use Rattle.lrc_plain.specs.Shelf.{at, IsShelf, IsPlaced, IsFullOf};
 ghost use Rattle.lrc_plain.specs.Rows.{whole, IsFor, IsOver};
-ghost use Rattle.lrc_plain.specs.Plain.{standing, outcome, IsMemo, IsNew, IsFullAt};
+ghost use Rattle.lrc_plain.specs.Plain.{state_of, meaning_of, outcome, IsMemo, IsNew, IsFullAt};
 ghost use Rattle.lrc_plain.specs.Recalled.{IsMissedAtZero};
 
 use crate::rows::Rows;
@@ -43,7 +43,7 @@ impl PlainStore<NoMeaning> {
     pub fn new(alloc: Global, rows: u32) -> Result<PlainStore<NoMeaning>, AllocError>
         requires some { 1 ≤ rows }
         requires limit { rows ≤ 2 ^ 24 }
-        ensures { IfOk result (λ store. IsNew (standing store.shelf store.outcomes store.missed) rows) }
+        ensures { IfOk result (λ store. IsNew (state_of store) rows) }
     {
         PlainStore::with_meaning(alloc, NoMeaning, rows)
     }
@@ -59,7 +59,7 @@ impl<M: Meaning + Drop> PlainStore<M> {
     pub fn with_meaning(alloc: Global, meaning: M, rows: u32) -> Result<PlainStore<M>, AllocError>
         requires some { 1 ≤ rows }
         requires limit { rows ≤ 2 ^ 24 }
-        ensures { IfOk result (λ store. IsNew (standing store.shelf store.outcomes store.missed) rows × (store.meaning ≡ meaning)) }
+        ensures { IfOk result (λ store. IsNew (state_of store) rows × (meaning_of store ≡ meaning)) }
     {
         Ok(PlainStore {
             rows: Rows::new(alloc, rows)?,
@@ -72,11 +72,12 @@ impl<M: Meaning + Drop> PlainStore<M> {
 
 impl<M: Meaning> PlainStore<M> {
     /// The handle of the cell, which is in a row then.
+    #[inline(always)]
     fn put(&mut self, cell: Cell) -> Result<Handle, Full>
         requires { IsFor (length self.old.shelf.cells) cell }
-        ensures puts { Puts (standing self.old.shelf self.old.outcomes self.old.missed) (standing self.new.shelf self.new.outcomes self.new.missed) (whole self.old.shelf.cells cell) result }
-        ensures exact { IsErr result ↔ IsFullAt self.old.shelf (whole self.old.shelf.cells cell) }
-        ensures same_meaning { self.new.meaning ≡ self.old.meaning }
+        ensures puts { Puts (state_of self.old) (state_of self.new) (whole self.old.shelf.cells cell) result }
+        ensures exact { IsErr result ↔ IsFullAt (state_of self.old) (whole self.old.shelf.cells cell) }
+        ensures same_meaning { meaning_of self.new ≡ meaning_of self.old }
     {
         self.rows.put(cell)
     }
@@ -115,24 +116,24 @@ impl<M: Meaning> PlainStore<M> {
 impl<N: Meaning> Store for PlainStore<N> {
     type M = N;
 
-    ghost state = { λ s. standing s.shelf s.outcomes s.missed };
+    ghost state = { state_of };
 
-    ghost meaning = { λ s. s.meaning };
+    ghost meaning = { meaning_of };
 
     fn int(&mut self, value: i64) -> Result<Handle, Full>
-        ensures puts { Puts (standing self.old.shelf self.old.outcomes self.old.missed) (standing self.new.shelf self.new.outcomes self.new.missed) (number value) result }
-        ensures exact { IsErr result ↔ IsFullAt self.old.shelf (number value) }
-        ensures same_meaning { self.new.meaning ≡ self.old.meaning }
+        ensures puts { Puts (state_of self.old) (state_of self.new) (number value) result }
+        ensures exact { IsErr result ↔ IsFullAt (state_of self.old) (number value) }
+        ensures same_meaning { meaning_of self.new ≡ meaning_of self.old }
     {
         self.put(Cell::Number(value))
     }
 
     fn cell(&mut self, tag: u32, left: Handle, right: Handle) -> Result<Handle, Full>
-        requires left_known { IsKnown (standing self.old.shelf self.old.outcomes self.old.missed) left.0 }
-        requires right_known { IsKnown (standing self.old.shelf self.old.outcomes self.old.missed) right.0 }
-        ensures puts { let s = standing self.old.shelf self.old.outcomes self.old.missed in Puts s (standing self.new.shelf self.new.outcomes self.new.missed) (pair tag (meant s left.0) (meant s right.0)) result }
-        ensures exact { let s = standing self.old.shelf self.old.outcomes self.old.missed in IsErr result ↔ IsFullAt self.old.shelf (pair tag (meant s left.0) (meant s right.0)) }
-        ensures same_meaning { self.new.meaning ≡ self.old.meaning }
+        requires left_known { IsKnown (state_of self.old) left.0 }
+        requires right_known { IsKnown (state_of self.old) right.0 }
+        ensures puts { let s = state_of self.old in Puts s (state_of self.new) (pair tag (meant s left.0) (meant s right.0)) result }
+        ensures exact { let s = state_of self.old in IsErr result ↔ IsFullAt s (pair tag (meant s left.0) (meant s right.0)) }
+        ensures same_meaning { meaning_of self.new ≡ meaning_of self.old }
     {
         self.put(Cell::Pair(tag, left, right))
     }
@@ -147,12 +148,12 @@ impl<N: Meaning> Store for PlainStore<N> {
     }
 
     fn recall(&mut self, call: Handle) -> Recall
-        requires { IsKnown (standing self.old.shelf self.old.outcomes self.old.missed) call.0 }
-        ensures stays { Stays (standing self.old.shelf self.old.outcomes self.old.missed) (standing self.new.shelf self.new.outcomes self.new.missed) }
-        ensures same_memo { (standing self.new.shelf self.new.outcomes self.new.missed).memo ≡ (standing self.old.shelf self.old.outcomes self.old.missed).memo }
-        ensures answers { let s = standing self.old.shelf self.old.outcomes self.old.missed in Recalls (N.allows self.old.meaning) (N.reach self.old.meaning) s (standing self.new.shelf self.new.outcomes self.new.missed) (meant s call.0) result }
+        requires { IsKnown (state_of self.old) call.0 }
+        ensures stays { Stays (state_of self.old) (state_of self.new) }
+        ensures same_memo { (state_of self.new).memo ≡ (state_of self.old).memo }
+        ensures answers { let s = state_of self.old in Recalls (N.allows (meaning_of self.old)) (N.reach (meaning_of self.old)) s (state_of self.new) (meant s call.0) result }
         ensures zero { IsMissedAtZero result }
-        ensures same_meaning { self.new.meaning ≡ self.old.meaning }
+        ensures same_meaning { meaning_of self.new ≡ meaning_of self.old }
     {
         let outcome = self.outcome_of(call);
         if outcome == 0 {

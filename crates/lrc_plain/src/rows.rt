@@ -1,8 +1,10 @@
-ghost use Rattle.std.specs.Prelude.{◌≡◌, ◌+◌, ◌<◌, ◌≤◌, ◌^◌, ◌++◌, ◌∷◌, [], length, IfOk, OnErr, MatchOption};
+ghost use Rattle.std.specs.Prelude.{◌≡◌, ◌+◌, ◌*◌, ◌<◌, ◌≤◌, ◌^◌, ◌++◌, ◌∷◌, [], length, IfOk, OnErr, MatchOption};
 ghost use Rattle.lrc_plain.specs.Shelf.{at, IsNamed, IsShelf, IsPlaced, IsFullOf};
 ghost use Rattle.lrc_plain.specs.Rows.{whole, IsFor, IsOver};
+ghost use Rattle.lrc_plain.specs.Home.{IsBucketOf};
 
 use crate::chains::{Row, find, link};
+use crate::homes::home;
 use lrc_store::{Cell, Full, Handle};
 use std::alloc::{AllocError, Global};
 use std::marker::Model;
@@ -81,6 +83,7 @@ impl Rows {
     /// # Errors
     ///
     /// Full, exactly where the cell is in no row and all rows are used.
+    #[inline(always)]
     pub fn put(&mut self, cell: Cell) -> Result<Handle, Full>
         requires { IsFor (length self.old.cells) cell }
         ensures quota { self.new.quota ≡ self.old.quota }
@@ -88,25 +91,38 @@ impl Rows {
         ensures ok { IfOk result (λ handle. IsPlaced self.old self.new (whole self.old.cells cell) handle.0) }
         ensures full { OnErr result (IsFullOf self.old self.new (whole self.old.cells cell)) }
     {
-        match self.find(cell) {
+        let bucket = self.bucket_of(cell);
+        match self.find(bucket, cell) {
             Some(handle) => Ok(handle),
             None if self.len() == self.quota() => Err(Full),
-            None => Ok(self.add(cell)),
+            None => Ok(self.add(bucket, cell)),
         }
     }
 
-    /// The handle of a cell that is in a row.
-    fn find(&self, cell: Cell) -> Option<Handle>
-        requires { IsFor (length self.now.cells) cell }
+    /// The bucket of a cell.
+    #[inline(always)]
+    fn bucket_of(&self, cell: Cell) -> usize
+        ensures { IsBucketOf result cell (2 * self.now.quota) }
+    {
+        home(cell, self.heads.len())
+    }
+
+    /// The handle of a cell that is in a row; the bucket is the cell's.
+    #[inline(always)]
+    fn find(&self, bucket: usize, cell: Cell) -> Option<Handle>
+        requires form { IsFor (length self.now.cells) cell }
+        requires bucket { IsBucketOf bucket cell (2 * self.now.quota) }
         ensures sound { IsShelf self.now }
         ensures found { MatchOption result (¬ IsNamed self.now.cells (whole self.now.cells cell)) (λ handle. (handle.0 ≤ length self.now.cells) × (at self.now.cells handle.0 ≡ whole self.now.cells cell)) }
     {
-        find(&self.rows, &self.heads, cell)
+        find(&self.rows, &self.heads, bucket, cell)
     }
 
-    /// Puts a cell that is in no row into one more.
-    fn add(&mut self, cell: Cell) -> Handle
+    /// Puts a cell that is in no row into one more; the bucket is the cell's.
+    #[inline(always)]
+    fn add(&mut self, bucket: usize, cell: Cell) -> Handle
         requires form { IsFor (length self.old.cells) cell }
+        requires bucket { IsBucketOf bucket cell (2 * self.old.quota) }
         requires unnamed { ¬ IsNamed self.old.cells (whole self.old.cells cell) }
         requires room { length self.old.cells < self.old.quota }
         ensures cells { self.new.cells ≡ self.old.cells ++ whole self.old.cells cell ∷ [] }
@@ -114,6 +130,6 @@ impl Rows {
         ensures sound { IsShelf self.new }
         ensures handle { result.0 ≡ length self.old.cells + 1 }
     {
-        link(&mut self.rows, &mut self.heads, cell)
+        link(&mut self.rows, &mut self.heads, bucket, cell)
     }
 }

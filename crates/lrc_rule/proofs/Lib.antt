@@ -3,3 +3,4 @@ pub mod Unique
 pub mod Counts
 pub mod Extends
 pub mod Keeping
+pub mod Masks

@@ -1,3 +1,4 @@
+pub mod BackLemmas
 pub mod FitLemmas
 pub mod StepLemmas
 pub mod RunLemmas

@@ -67,8 +67,9 @@ fn opened(
 
 /// The replies of a session of puts, and its last tree.
 ///
-/// Each put's tree is made once and evaluated from scratch, so an edit's time is linear in the tree. At
-/// most `limit` nodes are on the longest path of a tree that is evaluated.
+/// The tree is copied once. Each put replaces in place, and the tree is then evaluated from scratch, so
+/// an edit's time is linear in the tree. At most `limit` nodes are on the longest path of a tree that is
+/// evaluated.
 ///
 /// # Errors
 ///

@@ -11,6 +11,7 @@ use Rattle.lrc_store.specs.Cells.{CellTree, nil, IsClosed}
 --   memo     the remembered pairs of a call and its result, where the store tells them
 --   seen     cells that are in the store for good, nil left out, where the store tells them
 --   missed   how many recalls found nothing
+--   identity numbers that tell the memory of its cells, where it may be shared, from any other
 pub record Standing : Type 0 where
   pub known : ℕ → Option CellTree
   pub made : List CellTree
@@ -20,6 +21,7 @@ pub record Standing : Type 0 where
   pub memo : Option (List (CellTree × CellTree))
   pub seen : Option (List CellTree)
   pub missed : ℕ
+  pub identity : List ℕ
 
 -- the handle is known and stands for the cell
 abbrev pub Stands : Standing → ℕ → CellTree → Type 0

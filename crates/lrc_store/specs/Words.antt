@@ -38,6 +38,7 @@ pub record Stays (s t : Standing) : Type 0 where
   pub drawn : t.drawn ≡ s.drawn
   pub pooled : t.pooled ≡ s.pooled
   pub quota : t.quota ≡ s.quota
+  pub identity : t.identity ≡ s.identity
 
 -- the store was only read
 pub record Reads (s t : Standing) : Type 0 where
@@ -54,6 +55,7 @@ pub record Adds (s t : Standing) (cell : CellTree) : Type 0 where
   pub quota : KeepsQuota s t
   pub memo : t.memo ≡ s.memo
   pub missed : t.missed ≡ s.missed
+  pub identity : t.identity ≡ s.identity
 
 -- the handle stands for the cell, and the cell's parts are in the store for good
 pub record Tells (s : Standing) (handle : ℕ) (cell : CellTree) : Type 0 where

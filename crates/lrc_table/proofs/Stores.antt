@@ -108,6 +108,7 @@ puts p q cell answer c s a = let f = s.follows in let w = q.view in record {
     quota = record { pooled = refl; at_most = (let e = f.quota in omega (arith, e)); fixed = λ _. f.quota };
     memo = refl;
     missed = refl;
+    identity = refl;
   };
   ok = by_ok answer a.0;
   full = by_full answer a.1;
@@ -127,7 +128,7 @@ puts p q cell answer c s a = let f = s.follows in let w = q.view in record {
 
 pub store_reads : (p q : PassView) → IsCurrent p.view → Reads p q → StoreReads (standing p.view) (standing q.view)
 store_reads p q c r = record {
-  stays = record { known = keeps p.view q.view c r.follows; seen = seen-grows p.view q.view c r.follows; made = r.made; drawn = refl; pooled = refl; quota = r.follows.quota };
+  stays = record { known = keeps p.view q.view c r.follows; seen = seen-grows p.view q.view c r.follows; made = r.made; drawn = refl; pooled = refl; quota = r.follows.quota; identity = refl };
   memo = refl;
   missed = refl;
 }
@@ -251,6 +252,7 @@ meets_mine p other q m = record {
     drawn = refl;
     pooled = refl;
     quota = ap (λ (o : Owned). o.quota) m.owned;
+    identity = refl;
   };
   memo = refl;
   missed = refl;

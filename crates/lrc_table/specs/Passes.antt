@@ -35,6 +35,10 @@ coded_table_view {M} m =
 abbrev pub coded_pass_view : Coded PassView
 coded_pass_view = code_by (TableId × View) (coded× table_id_coded coded_view) (λ p. (p.table, p.view)) (λ p. record { table = p.0; view = p.1 }) (λ _. refl)
 
+-- the numbers that tell a table from any other: where its words lie, and which table it is
+abbrev pub identity : {M : Type 0} → TableView M → List ℕ
+identity t = t.layout.buckets ∷ t.layout.rows ∷ t.layout.memo ∷ t.id.words ∷ t.id.slots ∷ t.id.views_name ∷ t.id.atom ∷ t.id.block ∷ t.id.offset ∷ t.id.slot_names
+
 -- the pass is one of this table
 abbrev pub IsOf : {M : Type 0} → PassView → TableView M → Type 0
 IsOf p t = (p.table ≡ t.id) × (p.view.layout ≡ t.layout)

@@ -44,8 +44,13 @@ standing v = record {
   memo = None;
   seen = Some (cells_below v.layout (now v) v.layout.rows);
   missed = 0;
+  identity = [];
 }
 
--- the cell was noted as absent, and nothing else was
+-- no other cell than this one was noted as absent
+abbrev pub NotesOnly : View → View → CellTree → Type 0
+NotesOnly v w cell = (count : ℕ) × (w.learned.notes ≡ v.learned.notes ++ replicate count cell)
+
+-- where there is no row for the cell, it was noted as absent, and nothing else was
 abbrev pub IsNoted : View → View → CellTree → Result Handle Full → Type 0
 IsNoted v w cell answer = OnErr answer ((count : ℕ) × (w.learned.notes ≡ v.learned.notes ++ replicate (suc count) cell))

@@ -4,7 +4,7 @@ ghost use Rattle.lrc_store.specs.Cells.{number, pair};
 ghost use Rattle.lrc_store.specs.Standing.{IsKnown, meant};
 ghost use Rattle.lrc_store.specs.Words.{Puts, Reads, Shows, Keeps, Grows};
 ghost use Rattle.lrc_table.specs.Passes.{IsOf};
-ghost use Rattle.lrc_table.specs.Standings.{standing, IsNoted};
+ghost use Rattle.lrc_table.specs.Standings.{standing, NotesOnly, IsNoted};
 
 use crate::table::{Pass, Table};
 use lrc_rule::Content;
@@ -21,6 +21,7 @@ impl<M: Meaning> Pass<M> {
         requires { IsOf self.old table.now }
         ensures of { IsOf self.new table.now }
         ensures puts { Puts (standing self.old.view) (standing self.new.view) (number value) result }
+        ensures notes { NotesOnly self.old.view self.new.view (number value) }
         ensures noted { IsNoted self.old.view self.new.view (number value) result }
         ensures memo_steps { self.new.view.learned.memo_steps ≡ self.old.view.learned.memo_steps }
     {
@@ -52,6 +53,7 @@ impl<M: Meaning> Pass<M> {
         requires right_known { IsKnown (standing self.old.view) right.0 }
         ensures of { IsOf self.new table.now }
         ensures puts { Puts (standing self.old.view) (standing self.new.view) (pair tag (meant (standing self.old.view) left.0) (meant (standing self.old.view) right.0)) result }
+        ensures notes { NotesOnly self.old.view self.new.view (pair tag (meant (standing self.old.view) left.0) (meant (standing self.old.view) right.0)) }
         ensures noted { IsNoted self.old.view self.new.view (pair tag (meant (standing self.old.view) left.0) (meant (standing self.old.view) right.0)) result }
         ensures memo_steps { self.new.view.learned.memo_steps ≡ self.old.view.learned.memo_steps }
     {
@@ -71,6 +73,7 @@ impl<M: Meaning> Pass<M> {
         ensures of { IsOf self.new table.now }
         ensures shows { Shows (standing self.new.view) result (meant (standing self.old.view) handle.0) }
         ensures reads { Reads (standing self.old.view) (standing self.new.view) }
+        ensures notes { self.new.view.learned.notes ≡ self.old.view.learned.notes }
         ensures memo_steps { self.new.view.learned.memo_steps ≡ self.old.view.learned.memo_steps }
     {
         let _rows = self.published();

@@ -38,6 +38,7 @@ impl<M: Meaning> Pass<M> {
         requires place { place < table.now.layout.memo }
         ensures of { IsOf self.new table.now }
         ensures reads { Reads (standing self.old.view) (standing self.new.view) }
+        ensures notes { self.new.view.learned.notes ≡ self.old.view.learned.notes }
         ensures step { self.new.view.learned.memo_steps ≡ self.old.view.learned.memo_steps ++ memo_load place result ∷ [] }
         ensures word { IsKnownWord (M.allows table.now.meaning) (M.reach table.now.meaning) (standing self.new.view) result }
     {
@@ -57,6 +58,7 @@ impl<M: Meaning> Pass<M> {
         requires reached { Told (standing self.old.view).seen (IsWithin (M.reach table.now.meaning (meant (standing self.old.view) call.0) (meant (standing self.old.view) outcome.0))) }
         ensures of { IsOf self.new table.now }
         ensures reads { Reads (standing self.old.view) (standing self.new.view) }
+        ensures notes { self.new.view.learned.notes ≡ self.old.view.learned.notes }
         ensures step { self.new.view.learned.memo_steps ≡ self.old.view.learned.memo_steps ++ memo_store place (pair_word call.0 outcome.0) ∷ [] }
     {
         let _rows = self.published();
@@ -69,6 +71,7 @@ impl<M: Meaning> Pass<M> {
         requires place { place < table.now.layout.memo }
         ensures of { IsOf self.new table.now }
         ensures reads { Reads (standing self.old.view) (standing self.new.view) }
+        ensures notes { self.new.view.learned.notes ≡ self.old.view.learned.notes }
         ensures step { self.new.view.learned.memo_steps ≡ self.old.view.learned.memo_steps ++ memo_clear place ∷ [] }
     {
         let _rows = self.published();

@@ -9,6 +9,7 @@ use Rattle.lrc_order.specs.Ordered.{IsAcyclic}
 use Rattle.lrc_ordered.specs.Cycles.{HasNone, IsFirst}
 use Rattle.lrc_ordered.specs.Setup.{AreInduced, orders_of}
 use Rattle.lrc_ordered.specs.Tables.{table_at, Closed, HandedAmong, FitsIn}
+use Rattle.lrc_ordered.proofs.SmallLemmas.{few_is_small}
 use Rattle.lrc_ordered.proofs.CycleLemmas.{no_cycle, first_is}
 use Rattle.lrc_ordered.proofs.ExtendLemmas.{few_points, all_closed, orders_fit, extended_same}
 use Rattle.lrc_ordered.proofs.order_test.ordered_with.Goals as goal
@@ -21,7 +22,7 @@ extended-relations-requires-clause-few c =
     let made : AreInduced (grammar_of g) given t.places t.needs t.relations.items t.sorts.items =
     subst (λ (list : List Given). AreInduced (grammar_of g) list t.places t.needs t.relations.items t.sorts.items) c.as_slice.ensures c.in_ok-tables.ensures.tables in
     let kept : c.in-Ok.found.given ≡ given = c.in-Ok.ensures.given ∙ c.as_slice-2.ensures in
-    few_points (grammar_of g) g.ok c.requires.small given c.in-Ok.found kept c.in-Ok.ensures.are t.places t.needs t.relations.items t.sorts.items made
+    few_points (grammar_of g) g.ok (few_is_small (grammar_of g) g.few) given c.in-Ok.found kept c.in-Ok.ensures.are t.places t.needs t.relations.items t.sorts.items made
 
 pub extended-relations-requires-clause-closed : goal.extended-relations-requires-clause-closed
 extended-relations-requires-clause-closed c =
@@ -31,7 +32,7 @@ extended-relations-requires-clause-closed c =
     let made : AreInduced (grammar_of g) given t.places t.needs t.relations.items t.sorts.items =
     subst (λ (list : List Given). AreInduced (grammar_of g) list t.places t.needs t.relations.items t.sorts.items) c.as_slice.ensures c.in_ok-tables.ensures.tables in
     let kept : c.in-Ok.found.given ≡ given = c.in-Ok.ensures.given ∙ c.as_slice-2.ensures in
-    all_closed (grammar_of g) g.ok c.requires.small given c.in-Ok.found kept c.in-Ok.ensures.are t.places t.needs t.relations.items t.sorts.items made
+    all_closed (grammar_of g) g.ok (few_is_small (grammar_of g) g.few) given c.in-Ok.found kept c.in-Ok.ensures.are t.places t.needs t.relations.items t.sorts.items made
 
 pub extended-relations-requires-clause-within : goal.extended-relations-requires-clause-within
 extended-relations-requires-clause-within c =
@@ -45,7 +46,7 @@ extended-relations-requires-clause-within c =
     → All (FitsIn (orders_of c.sorts.result.now) (table_at t.relations.items i).points) (get_or places i [])) (sym c.as_slice-3.ensures)
     (subst (λ (orders : List Pairs). (i : ℕ) → i < length t.relations.items
     → All (FitsIn orders (table_at t.relations.items i).points) (get_or t.places i [])) (sym (ap orders_of c.sorts.ensures))
-    (orders_fit (grammar_of g) g.ok c.requires.small given c.in-Ok.found kept c.in-Ok.ensures.are t.places t.needs t.relations.items t.sorts.items made))
+    (orders_fit (grammar_of g) g.ok (few_is_small (grammar_of g) g.few) given c.in-Ok.found kept c.in-Ok.ensures.are t.places t.needs t.relations.items t.sorts.items made))
 
 pub returns-in-Some-clause-fault : goal.returns-in-Some-clause-fault
 returns-in-Some-clause-fault c =
@@ -63,7 +64,7 @@ returns-in-Some-clause-fault c =
     (subst (λ (orders : List Pairs). (i : ℕ) → i < length t.relations.items
     → Closed (table_at t.relations.items i) (table_at c.extended-relations.result.items i) (HandedAmong orders (get_or c.as_slice-3.result.now i []))) one c.extended-relations.ensures.closed) in
     let number = c.extended-relations.ensures.number ∙ made.productions in
-    let exact = extended_same (grammar_of g) g.ok c.requires.small given c.in-Ok.found kept c.in-Ok.ensures.are t.places t.needs t.relations.items t.sorts.items made c.extended-relations.result.items closed in
+    let exact = extended_same (grammar_of g) g.ok (few_is_small (grammar_of g) g.few) given c.in-Ok.found kept c.in-Ok.ensures.are t.places t.needs t.relations.items t.sorts.items made c.extended-relations.result.items closed in
     let acyclic : All (λ p. IsAcyclic (Leads (grammar_of g) given p)) g.prods =
     subst (λ (list : List Given). All (λ p. IsAcyclic (Leads (grammar_of g) list p)) g.prods) c.as_slice.ensures c.in_ok-tables.ensures.acyclic in (
       acyclic,
@@ -87,7 +88,7 @@ returns-clause-ordered c =
     (subst (λ (orders : List Pairs). (i : ℕ) → i < length t.relations.items
     → Closed (table_at t.relations.items i) (table_at c.extended-relations.result.items i) (HandedAmong orders (get_or c.as_slice-3.result.now i []))) one c.extended-relations.ensures.closed) in
     let number = c.extended-relations.ensures.number ∙ made.productions in
-    let exact = extended_same (grammar_of g) g.ok c.requires.small given c.in-Ok.found kept c.in-Ok.ensures.are t.places t.needs t.relations.items t.sorts.items made c.extended-relations.result.items closed in
+    let exact = extended_same (grammar_of g) g.ok (few_is_small (grammar_of g) g.few) given c.in-Ok.found kept c.in-Ok.ensures.are t.places t.needs t.relations.items t.sorts.items made c.extended-relations.result.items closed in
     let acyclic : All (λ p. IsAcyclic (Leads (grammar_of g) given p)) g.prods =
     subst (λ (list : List Given). All (λ p. IsAcyclic (Leads (grammar_of g) list p)) g.prods) c.as_slice.ensures c.in_ok-tables.ensures.acyclic in
     record {
@@ -95,3 +96,9 @@ returns-clause-ordered c =
       extended = no_cycle g.prods (ExtendedPath (grammar_of g) given) c.extended-relations.result.items number exact
           (subst (λ (rs : List Pairs). HasNone rs) c.as_slice-4.ensures.value c.in-None.ensures);
     }
+
+pub acyclic_induced-requires-clause-small : goal.acyclic_induced-requires-clause-small
+acyclic_induced-requires-clause-small c = few_is_small (grammar_of c.args.grammar.now) c.args.grammar.now.few
+
+pub partition_sorts-requires-clause-small : goal.partition_sorts-requires-clause-small
+partition_sorts-requires-clause-small c = few_is_small (grammar_of c.args.grammar.now) c.args.grammar.now.few

@@ -7,4 +7,4 @@ use Rattle.lrc_memo.proofs.shared.SharedStoreStore.published.Goals as goal
 
 pub returns-clause-sound : goal.returns-clause-sound
 returns-clause-sound g c =
-    subst (λ (s : Shared g.row.N.Denot). IsSound (shared_standing s.pass.view s.missed)) c.self.view_is (sound_with (standing c.self.inside.pass.view) c.self.inside.missed c.published.ensures.sound)
+    subst (λ (s : Shared g.row.N.Denot). IsSound (shared_standing s)) c.self.view_is (sound_with (standing c.self.inside.pass.view) c.self.inside.missed _ c.published.ensures.sound)

@@ -1,0 +1,14 @@
+pub mod Lists
+pub mod Names
+pub mod Sorts
+pub mod Heads
+pub mod Patterns
+pub mod Places
+pub mod Meanings
+pub mod Occurrences
+pub mod Expressions
+pub mod Equations
+pub mod Distinct
+pub mod Counts
+pub mod Productions
+pub mod Grammars
