@@ -1,7 +1,6 @@
 -- A term as it is written: the tree that it is over a grammar's productions, or its first node at fault. Children are
 -- examined before their node, from left to right.
-use Rattle.std.specs.Prelude.{◌≡◌, ◌≢◌, ℕ, suc, Bool, false, List, [], ◌∷◌, length, map, Option, Some, None, Result, Ok, Err, MatchResult, nat_eq, nat_le, cond}
-use Rattle.std.specs.List.{list_all}
+use Rattle.std.specs.Prelude.{◌≡◌, ◌≢◌, ℕ, suc, Bool, false, List, [], ◌∷◌, length, map, Option, Some, None, Result, Ok, Err, MatchResult, nat_eq, cond}
 use Rattle.lrc_base.specs.declared.grammar.Kind.{Kind}
 use Rattle.lrc_base.specs.declared.grammar.Kid.{Kid}
 use Rattle.lrc_base.specs.declared.grammar.Production.{Production}
@@ -21,10 +20,6 @@ and_then f (Err e) = Err e
 abbrev pub map_ok : {A B E : Type 0} → (A → B) → Result A E → Result B E
 map_ok f (Ok a) = Ok (f a)
 map_ok f (Err e) = Err e
-
--- no production has more than eight children
-abbrev pub have_few_kids : List Production → Bool
-have_few_kids prods = list_all (λ (q : Production). nat_le (length q.kids) 8) prods
 
 -- each of a list, or the first fault among them
 abbrev pub each_ok : {A E : Type 0} → List (Result A E) → Result (List A) E

@@ -1,6 +1,8 @@
 ghost use Rattle.std.specs.Prelude.{◌≡◌, ◌≤◌, ◌<◌, ◌^◌, length, map, IsTrue};
+ghost use Rattle.lrc_grammar.specs.Limits.{has_few_parts};
+ghost use Rattle.std.specs.List.{list_all};
 ghost use Rattle.lrc_meaning.specs.Tree.{tree, kids_of, kind_of};
-ghost use Rattle.lrc_resolve.specs.Resolved.{have_few_kids, is_of_kind, first_unlike};
+ghost use Rattle.lrc_resolve.specs.Resolved.{is_of_kind, first_unlike};
 
 use lrc_base::{Kid, Kind, Production, Term};
 use lrc_grammar::same_kind;
@@ -25,7 +27,7 @@ pub fn kind_of(prods: &[Production], term: &Term) -> Option<Kind>
 
 /// The children of the production of this number; none where there is no such production.
 pub fn kids_of(prods: &[Production], number: u32) -> &[Kid]
-    requires { IsTrue (have_few_kids prods.now) }
+    requires { IsTrue (list_all has_few_parts prods.now) }
     ensures kids { result.now ≡ kids_of prods.now number }
     ensures few { length result.now ≤ 8 }
 {

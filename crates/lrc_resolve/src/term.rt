@@ -1,7 +1,9 @@
 ghost use Rattle.std.specs.Prelude.{◌≡◌, ◌≤◌, ◌++◌, [], ◌∷◌, length, map, IsTrue, OnOk};
+ghost use Rattle.lrc_grammar.specs.Limits.{has_few_parts};
+ghost use Rattle.std.specs.List.{list_all};
 ghost use Rattle.lrc_meaning.specs.Tree.{tree};
 ghost use Rattle.lrc_meaning.specs.Naming.{production_number};
-ghost use Rattle.lrc_resolve.specs.Resolved.{have_few_kids, each_ok, node_of, resolved, IsTerm, AreTerms, IsResolved};
+ghost use Rattle.lrc_resolve.specs.Resolved.{each_ok, node_of, resolved, IsTerm, AreTerms, IsResolved};
 
 use crate::fault::TermFault;
 use crate::kinds::{first_unlike, kids_of, kind_of};
@@ -13,7 +15,7 @@ use std::alloc::Global;
 /// A node over terms that are right.
 fn node(prods: &[Production], name: NameText, terms: List<Term>) -> Result<Term, TermFault>
     requires prods { length prods.now ≤ 256 }
-    requires kids { IsTrue (have_few_kids prods.now) }
+    requires parts { IsTrue (list_all has_few_parts prods.now) }
     ensures { IsTerm (node_of prods.now name (production_number prods.now name) (map tree terms)) result }
 {
     let Some(number) = production_number(prods, name) else {
@@ -40,7 +42,7 @@ fn push_term(terms: &mut Vec<Term>, term: Term) -> Result<(), Memory>
 #[tactic(auto, using(crate::proofs::ResolvedLemmas::resolved_equations, lrc_meaning::proofs::TreeLemmas::tree_equations))]
 fn term_of(alloc: Global, prods: &[Production], raw: &RawTerm) -> Result<Term, TermFault>
     requires prods { length prods.now ≤ 256 }
-    requires kids { IsTrue (have_few_kids prods.now) }
+    requires parts { IsTrue (list_all has_few_parts prods.now) }
     ensures { IsTerm (resolved prods.now raw.now) result }
 {
     match raw {
@@ -57,7 +59,7 @@ fn term_of(alloc: Global, prods: &[Production], raw: &RawTerm) -> Result<Term, T
 #[cycle(resolve)]
 fn terms_of(alloc: Global, prods: &[Production], raw: &[RawTerm]) -> Result<List<Term>, TermFault>
     requires prods { length prods.now ≤ 256 }
-    requires kids { IsTrue (have_few_kids prods.now) }
+    requires parts { IsTrue (list_all has_few_parts prods.now) }
     ensures { AreTerms (each_ok (map (resolved prods.now) raw.now)) result }
 {
     let mut terms = Vec::with_capacity(alloc, raw.len())?;
@@ -78,8 +80,6 @@ fn terms_of(alloc: Global, prods: &[Production], raw: &[RawTerm]) -> Result<List
 /// At the first node at fault: no production has its name; else the number of its children differs;
 /// else a child has another kind, the first such. Want of memory.
 pub fn resolve(alloc: Global, grammar: &Grammar, raw: &RawTerm) -> Result<(Kind, Term), TermFault>
-    requires prods { length grammar.now.prods ≤ 256 }
-    requires kids { IsTrue (have_few_kids grammar.now.prods) }
     ensures { IsResolved grammar.now.prods (resolved grammar.now.prods raw.now) result }
 {
     let prods = grammar.prods.as_slice();

@@ -1,9 +1,4 @@
 //! Terms over numbers and their sums, one that is right and one for each fault.
-ghost use Rattle.std.specs.Prelude.{◌≡◌, ◌≤◌, IsTrue, IfOk, length, nat_le};
-ghost use Rattle.std.specs.List.{list_all};
-ghost use Rattle.lrc_base.specs.declared.grammar.Production.{Production};
-ghost use Rattle.lrc_resolve.specs.Resolved.{have_few_kids};
-
 use crate::{TermFault, resolve};
 use lrc_base::{
     Attr, Boxed, Equation, Expr, Kid, Kind, List, Memory, NameText, Op, Production, RawTerm, Sort,
@@ -42,23 +37,8 @@ fn production(alloc: Global, name: &[u8], kids: List<Kid>, expr: Expr) -> Result
     })
 }
 
-fn has_few_kids(production: &Production) -> bool
-    ensures { result ≡ nat_le (length production.now.kids) 8 }
-{
-    production.kids.len() <= 8
-}
-
-fn have_few_kids(prods: &[Production]) -> bool
-    ensures { result ≡ list_all (λ (q : Production). nat_le (length q.kids) 8) prods.now }
-{
-    prods.iter().all(|production| has_few_kids(production))
-}
-
 /// Numbers and their sums.
-fn sums(alloc: Global) -> Result<Grammar, Fail>
-    ensures prods { IfOk result (λ grammar. length grammar.prods ≤ 256) }
-    ensures kids { IfOk result (λ grammar. IsTrue (have_few_kids grammar.prods)) }
-{
+fn sums(alloc: Global) -> Result<Grammar, Fail> {
     let attr = Attr {
         name: named(b"v")?,
         inherited: false,
@@ -79,11 +59,7 @@ fn sums(alloc: Global) -> Result<Grammar, Fail>
     let node = production(alloc, b"Add", List::from_vec(sides), sum)?;
     let prods = List::from_vec(vec![in alloc; leaf, node]?);
     let made = Grammar::new(alloc, one(alloc, sort)?, prods, 0)?;
-    let grammar = made.ok_or("not well formed")?;
-    if grammar.prods.len() > 256 || !have_few_kids(grammar.prods.as_slice()) {
-        return Err(Fail::from("too many productions or children"));
-    }
-    Ok(grammar)
+    Ok(made.ok_or("not well formed")?)
 }
 
 /// `Num(value)`
