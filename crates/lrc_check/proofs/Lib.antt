@@ -5,3 +5,4 @@ pub mod ScopeLemmas
 pub mod FoundLemmas
 pub mod ArgumentLemmas
 pub mod MissingLemmas
+pub mod LimitLemmas

@@ -1,5 +1,5 @@
 -- The fault that is answered: the first.
-use Rattle.std.specs.Prelude.{◌≡◌, Bool, false, List, [], ◌∷◌, ◌++◌, flat_map, Option, Some, None, Result, Ok, Err, MatchResult}
+use Rattle.std.specs.Prelude.{◌≡◌, Bool, false, List, [], ◌∷◌, ◌++◌, flat_map, Option, Some, None, codes, Result, Ok, Err, MatchResult}
 use Rattle.lrc_base.specs.declared.raw.RawProd.{RawProd}
 use Rattle.lrc_base.specs.declared.raw.RawGrammar.{RawGrammar}
 use Rattle.lrc_base.specs.declared.raw.RawKind.{RawKind}
@@ -21,6 +21,10 @@ kind_answered start_inherits = k.StartInherits
 -- a fault as it is answered
 abbrev pub answered : Fault → GrammarFault
 answered f = record { kind = kind_answered f.kind; place = f.place; owner = f.owner; name = f.name }
+
+-- the answer for want of memory
+abbrev pub no_memory : GrammarFault
+no_memory = record { kind = k.Memory; place = codes "start"; owner = None; name = codes "start" }
 
 -- all is right where there is no fault, and else the first one is answered
 abbrev pub verdict : List Fault → Result (Unit {0}) GrammarFault

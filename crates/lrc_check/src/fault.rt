@@ -1,7 +1,8 @@
 ghost use Rattle.std.specs.Prelude.{◌≡◌, None, Some};
 
 use crate::target::Target;
-use lrc_base::NameText;
+use crate::words::start_word;
+use lrc_base::{Memory, NameText};
 
 /// What is wrong with a grammar.
 #[derive(Debug, Clone, Copy, PartialEq, Eq)]
@@ -70,5 +71,16 @@ impl GrammarFault {
             owner: target.owner,
             name: target.name,
         }
+    }
+}
+
+impl From<Memory> for GrammarFault {
+    ghost use Rattle.std.specs.Prelude.{◌≡◌};
+    ghost use Rattle.lrc_check.specs.Verdict.{no_memory};
+
+    ghost from_gives = { λ _ fault. fault ≡ no_memory };
+
+    fn from(_memory: Memory) -> GrammarFault {
+        GrammarFault::new(GrammarKind::Memory, start_word(), start_word())
     }
 }

@@ -1,6 +1,7 @@
 //! The checks of a grammar as it is written: its first fault, or that it has none.
 #![tactic(auto)]
 
+mod checked;
 mod declarations;
 mod declared;
 mod equations;
@@ -18,6 +19,7 @@ mod start;
 mod target;
 mod words;
 
+pub use checked::check;
 pub use fault::{GrammarFault, GrammarKind};
 pub use first::first_fault;
 

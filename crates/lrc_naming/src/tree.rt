@@ -6,7 +6,7 @@ use lrc_base::{Boxed, List, Memory, NameText, Production, RawTerm, Term};
 use std::alloc::Global;
 
 /// The number of the first production of this name.
-fn production_number(prods: &[Production], name: NameText) -> Option<u32>
+pub fn production_number(prods: &[Production], name: NameText) -> Option<u32>
     requires { length prods.now < 2 ^ 32 }
     ensures { result ≡ production_number prods.now name }
 {

@@ -1,0 +1,2 @@
+pub mod ResolvedLemmas
+pub mod LawLemmas

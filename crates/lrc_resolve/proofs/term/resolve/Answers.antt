@@ -1,0 +1,24 @@
+use Rattle.std.proofs.Common.{◌≡◌, ◌≤◌, IsTrue, List, length, None, Some, sym, subst, ◌∙◌}
+use Rattle.std.specs.List.{list_all}
+use Rattle.lrc_base.specs.declared.grammar.Production.{Production}
+use Rattle.lrc_meaning.specs.Tree.{tree}
+use Rattle.lrc_grammar.specs.Grammar.{grammar_of}
+use Rattle.lrc_grammar.specs.Limits.{has_few_parts}
+use Rattle.lrc_resolve.proofs.ResolvedLemmas.{few_productions}
+use Rattle.lrc_resolve.proofs.LawLemmas.{found_fits}
+use Rattle.lrc_resolve.proofs.term.resolve.Goals as goal
+
+pub unreachable-requires : goal.unreachable-requires
+unreachable-requires c =
+    let prods = c.as_slice-prods.result.now in
+    let found = found_fits prods c.args.raw.now (tree c.in_ok-term.term) c.in_ok-term.ensures in
+    let none : None ≡ Some found.0 = c.in-None.ensures ∙ found.1 in
+    cc
+
+pub term_of-requires-clause-prods : goal.term_of-requires-clause-prods
+term_of-requires-clause-prods c =
+    subst (λ (ps : List Production). length ps ≤ 256) (sym c.as_slice-prods.ensures) (few_productions (grammar_of c.args.grammar.now) c.args.grammar.now.few).0
+
+pub term_of-requires-clause-parts : goal.term_of-requires-clause-parts
+term_of-requires-clause-parts c =
+    subst (λ ps. IsTrue (list_all has_few_parts ps)) (sym c.as_slice-prods.ensures) (few_productions (grammar_of c.args.grammar.now) c.args.grammar.now.few).1
