@@ -16,10 +16,10 @@ use Rattle.lrc_lines.specs.Lines.{status_of, IsStatus}
 use Rattle.lrc_lines.specs.Gains.{Gains, GainsLine}
 use Rattle.lrc_base.specs.declared.job.Job.{Job}
 use Rattle.lrc_reader.specs.Denotes.{Denotes}
-use Rattle.lrc_stub.specs.declared.fault.JobFault.{JobFault}
-use Rattle.lrc_stub.specs.declared.fault.JobFault.TheVariants as text
-use Rattle.lrc_stub.specs.declared.fault.AcceptFault.{AcceptFault}
-use Rattle.lrc_stub.specs.declared.fault.AcceptFault.TheVariants as accept
+use Rattle.lrc_reader.specs.declared.fault.JobFault.{JobFault}
+use Rattle.lrc_reader.specs.declared.fault.JobFault.TheVariants as text
+use Rattle.lrc_job.specs.declared.fault.AcceptFault.{AcceptFault}
+use Rattle.lrc_job.specs.declared.fault.AcceptFault.TheVariants as accept
 use Rattle.lrc_stub.specs.Stub.{IsTextFault, IsAcceptFault}
 use Rattle.lrc_lines.specs.Taken.{failure_of_text, failure_of_job}
 use Rattle.lrc_cli.specs.Headline.{IsBuilt, IsRunOf}

@@ -11,10 +11,10 @@ use Rattle.lrc_order.specs.Ordered.{IsOrdered, IsInducedCycle, IsExtendedCycle}
 use Rattle.lrc_reader.specs.Denotes.{Denotes}
 use Rattle.lrc_words.specs.declared.command.Command.{Command}
 use Rattle.lrc_words.specs.declared.command.Verb.TheVariants as verb
-use Rattle.lrc_stub.specs.declared.fault.JobFault.{JobFault}
-use Rattle.lrc_stub.specs.declared.fault.JobFault.TheVariants as text
-use Rattle.lrc_stub.specs.declared.fault.AcceptFault.{AcceptFault}
-use Rattle.lrc_stub.specs.declared.fault.AcceptFault.TheVariants as accept
+use Rattle.lrc_reader.specs.declared.fault.JobFault.{JobFault}
+use Rattle.lrc_reader.specs.declared.fault.JobFault.TheVariants as text
+use Rattle.lrc_job.specs.declared.fault.AcceptFault.{AcceptFault}
+use Rattle.lrc_job.specs.declared.fault.AcceptFault.TheVariants as accept
 use Rattle.lrc_stub.specs.Stub.{Opened, IsTextFault, IsAcceptFault}
 use Rattle.lrc_lines.specs.declared.failure.Cycle.{Cycle}
 use Rattle.lrc_lines.specs.declared.failure.Failure.{Failure}

@@ -2,17 +2,17 @@
 use Rattle.std.specs.Prelude.{◌≡◌, ◌⊎◌, ℕ, ◌+◌, List, ◌++◌, [], ◌∷◌, Option, Some, None, Bool, true, false, codes, decimal}
 use Rattle.lrc_lex.specs.declared.LexFault.{LexFault}
 use Rattle.lrc_lex.specs.declared.LexFault.TheVariants as lex
-use Rattle.lrc_stub.specs.declared.fault.JobFault.{JobFault}
-use Rattle.lrc_stub.specs.declared.fault.JobFault.TheVariants as text
-use Rattle.lrc_stub.specs.declared.fault.Limit.{Limit}
-use Rattle.lrc_stub.specs.declared.fault.Limit.TheVariants as limit
-use Rattle.lrc_stub.specs.declared.fault.GrammarKind.{GrammarKind}
-use Rattle.lrc_stub.specs.declared.fault.GrammarKind.TheVariants as kind
-use Rattle.lrc_stub.specs.declared.fault.GrammarFault.{GrammarFault}
-use Rattle.lrc_stub.specs.declared.fault.TermFault.{TermFault}
-use Rattle.lrc_stub.specs.declared.fault.TermFault.TheVariants as term
-use Rattle.lrc_stub.specs.declared.fault.AcceptFault.{AcceptFault}
-use Rattle.lrc_stub.specs.declared.fault.AcceptFault.TheVariants as accept
+use Rattle.lrc_reader.specs.declared.fault.JobFault.{JobFault}
+use Rattle.lrc_reader.specs.declared.fault.JobFault.TheVariants as text
+use Rattle.lrc_reader.specs.declared.fault.Limit.{Limit}
+use Rattle.lrc_reader.specs.declared.fault.Limit.TheVariants as limit
+use Rattle.lrc_check.specs.declared.fault.GrammarKind.{GrammarKind}
+use Rattle.lrc_check.specs.declared.fault.GrammarKind.TheVariants as kind
+use Rattle.lrc_check.specs.declared.fault.GrammarFault.{GrammarFault}
+use Rattle.lrc_resolve.specs.declared.fault.TermFault.{TermFault}
+use Rattle.lrc_resolve.specs.declared.fault.TermFault.TheVariants as term
+use Rattle.lrc_job.specs.declared.fault.AcceptFault.{AcceptFault}
+use Rattle.lrc_job.specs.declared.fault.AcceptFault.TheVariants as accept
 use Rattle.lrc_lines.specs.Pieces.{joined}
 use Rattle.lrc_lines.specs.declared.failure.Cycle.{Cycle}
 use Rattle.lrc_lines.specs.declared.failure.Failure.{Failure}

@@ -1,10 +1,10 @@
 -- Which fault of the program a fault of a call below is.
 use Rattle.lrc_outside.specs.declared.take_all.TakeFault.{TakeFault}
 use Rattle.lrc_outside.specs.declared.take_all.TakeFault.TheVariants as t
-use Rattle.lrc_stub.specs.declared.fault.JobFault.{JobFault}
-use Rattle.lrc_stub.specs.declared.fault.JobFault.TheVariants as text
-use Rattle.lrc_stub.specs.declared.fault.AcceptFault.{AcceptFault}
-use Rattle.lrc_stub.specs.declared.fault.AcceptFault.TheVariants as accept
+use Rattle.lrc_reader.specs.declared.fault.JobFault.{JobFault}
+use Rattle.lrc_reader.specs.declared.fault.JobFault.TheVariants as text
+use Rattle.lrc_job.specs.declared.fault.AcceptFault.{AcceptFault}
+use Rattle.lrc_job.specs.declared.fault.AcceptFault.TheVariants as accept
 use Rattle.lrc_lines.specs.declared.failure.Failure.{Failure}
 use Rattle.lrc_lines.specs.declared.failure.Failure.TheVariants as f
 

@@ -3,7 +3,8 @@ ghost use Rattle.lrc_lines.specs.Lines.{status_of};
 
 use lrc_base::{Memory, NameText};
 use lrc_outside::{Failed, TakeFault};
-use lrc_stub::{AcceptFault, JobFault};
+use lrc_job::AcceptFault;
+use lrc_reader::JobFault;
 
 /// A cycle of dependencies: the production where it is, and the occurrence on it that is told.
 #[derive(Debug, Clone, Copy)]

@@ -7,7 +7,10 @@ use crate::failure::{Cycle, Failure};
 use crate::pieces::{Piece, put_pieces};
 use lrc_lex::LexFault;
 use lrc_outside::{Failed, Sink};
-use lrc_stub::{AcceptFault, GrammarFault, GrammarKind, JobFault, Limit, TermFault};
+use lrc_check::{GrammarFault, GrammarKind};
+use lrc_job::AcceptFault;
+use lrc_reader::{JobFault, Limit};
+use lrc_resolve::TermFault;
 
 const USAGE: &[u8] =
     b"usage: lrc run|solo|check|plan|gen [--rows N] [--memo N] [--depth N] [--seed N] [--nodes N] [--sessions N]";
