@@ -1,8 +1,9 @@
-ghost use Rattle.std.specs.Prelude.{◌≡◌, ◌≤◌, ◌++◌, [], ◌∷◌, length, map, IsTrue, OnOk};
+ghost use Rattle.std.specs.Prelude.{◌≡◌, ◌≤◌, ◌++◌, [], ◌∷◌, length, map, IsTrue, OnOk, IfOk};
 ghost use Rattle.lrc_grammar.specs.Limits.{has_few_parts};
 ghost use Rattle.std.specs.List.{list_all};
 ghost use Rattle.lrc_meaning.specs.Tree.{tree};
 ghost use Rattle.lrc_meaning.specs.Naming.{production_number};
+ghost use Rattle.lrc_resolve.specs.Laws.{NamesFitting};
 ghost use Rattle.lrc_resolve.specs.Resolved.{each_ok, node_of, resolved, IsTerm, AreTerms, IsResolved};
 
 use crate::fault::TermFault;
@@ -80,7 +81,8 @@ fn terms_of(alloc: Global, prods: &[Production], raw: &[RawTerm]) -> Result<List
 /// At the first node at fault: no production has its name; else the number of its children differs;
 /// else a child has another kind, the first such. Want of memory.
 pub fn resolve(alloc: Global, grammar: &Grammar, raw: &RawTerm) -> Result<(Kind, Term), TermFault>
-    ensures { IsResolved grammar.now.prods (resolved grammar.now.prods raw.now) result }
+    ensures found { IsResolved grammar.now.prods (resolved grammar.now.prods raw.now) result }
+    ensures fitting { IfOk result (λ t. NamesFitting grammar.now.prods raw.now (tree t.1) t.0) }
 {
     let prods = grammar.prods.as_slice();
     let term = term_of(alloc, prods, raw)?;

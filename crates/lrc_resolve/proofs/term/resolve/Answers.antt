@@ -4,6 +4,7 @@ use Rattle.lrc_base.specs.declared.grammar.Production.{Production}
 use Rattle.lrc_meaning.specs.Tree.{tree}
 use Rattle.lrc_grammar.specs.Grammar.{grammar_of}
 use Rattle.lrc_grammar.specs.Limits.{has_few_parts}
+use Rattle.lrc_resolve.specs.Laws.{NamesFitting}
 use Rattle.lrc_resolve.proofs.ResolvedLemmas.{few_productions}
 use Rattle.lrc_resolve.proofs.LawLemmas.{found_fits}
 use Rattle.lrc_resolve.proofs.term.resolve.Goals as goal
@@ -22,3 +23,11 @@ term_of-requires-clause-prods c =
 pub term_of-requires-clause-parts : goal.term_of-requires-clause-parts
 term_of-requires-clause-parts c =
     subst (λ ps. IsTrue (list_all has_few_parts ps)) (sym c.as_slice-prods.ensures) (few_productions (grammar_of c.args.grammar.now) c.args.grammar.now.few).1
+
+pub returns-clause-fitting : goal.returns-clause-fitting
+returns-clause-fitting c =
+    let t = tree c.in_ok-term.term in
+    let found = found_fits c.as_slice-prods.result.now c.args.raw.now t c.in_ok-term.ensures in
+    let same : found.0 ≡ c.in-Some.kind = let both = sym found.1 ∙ sym c.in-Some.ensures in cc in
+    subst (λ prods. NamesFitting prods c.args.raw.now t c.in-Some.kind) c.as_slice-prods.ensures
+    (subst (λ kind. NamesFitting c.as_slice-prods.result.now c.args.raw.now t kind) same found.2)
