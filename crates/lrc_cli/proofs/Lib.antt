@@ -2,3 +2,4 @@ pub mod TextLemmas
 pub mod TopLemmas
 pub mod PlacedLemmas
 pub mod RunLemmas
+pub mod LimitLemmas

@@ -1,37 +1,162 @@
--- From a session that can be run to its replies.
-use Rattle.std.proofs.Common.{◌≡◌, Bool, true, false, ◌&&◌, IsTrue, List, [], ◌∷◌, subst, refl}
+-- From a session that can be run to its replies, and to the text of the run.
+use Rattle.std.proofs.Common.{◌≡◌, ℕ, Bool, true, false, ◌&&◌, ◌*◌, ◌<◌, ◌≤◌, IsTrue, List, [], ◌∷◌, map, length, Option, option_map, Result, Ok, Err, inl, inr, subst, sym, ap, refl, ◌∙◌}
 use Rattle.std.specs.List.{list_all}
 use Rattle.std.proofs.lemmas.Bool.{and_parts}
+use Rattle.std.proofs.lemmas.Bool.Decides.{leb_tells}
+use Rattle.std.proofs.lemmas.List.Folds.{list_all-map}
+use Rattle.lrc_base.specs.declared.grammar.Attr.{Attr}
 use Rattle.lrc_base.specs.declared.grammar.Production.{Production}
 use Rattle.lrc_base.specs.declared.job.Edit.{Edit}
 use Rattle.lrc_base.specs.declared.job.Edit.TheVariants as edit
 use Rattle.lrc_base.specs.declared.job.Script.{Script}
-use Rattle.lrc_meaning.specs.Grammar.{Grammar}
-use Rattle.lrc_meaning.specs.Editing.{change}
-use Rattle.lrc_script.specs.Script.{is_fitting_put, are_fitting_puts}
-use Rattle.lrc_stub.specs.Stub.{is_fitting_edit, is_fitting_script}
-use Rattle.lrc_cli.specs.Headline.{is_put}
+use Rattle.lrc_base.specs.declared.job.Job.{Job}
+use Rattle.lrc_meaning.specs.Tree.{Tree, tree}
+use Rattle.lrc_meaning.specs.Grammar.{Grammar, attrs_of_sort, is_well_formed}
+use Rattle.lrc_meaning.specs.Plain.{is_plain}
+use Rattle.lrc_meaning.specs.Editing.{Change, change, Reply, ReplyRun, never_full}
+use Rattle.lrc_meaning.specs.Text.{unparsed, run_text}
+use Rattle.lrc_reader.specs.Denotes.{Denotes}
+use Rattle.lrc_script.specs.declared.reply.Replies.{Replies}
+use Rattle.lrc_script.specs.Script.{is_fitting_put, are_fitting_puts, reply_of, IsSessionOf, SessionsAreUnique}
+use Rattle.lrc_job.specs.Fitting.{edit_fits, script_fits}
+use Rattle.lrc_job.specs.Job.{Session, session, sessions_of, HasSessions}
+use Rattle.lrc_job.specs.declared.fault.AcceptFault.{AcceptFault}
+use Rattle.lrc_named.proofs.Grammars.{no_fault_is_named}
+use Rattle.lrc_cli.specs.Headline.{is_put, IsAccepted, IsBuilt, IsRunOf}
+use Rattle.lrc_cli.specs.Printed.{one_session}
+use Rattle.lrc_cli.specs.Running.{IsPlainSession}
+use Rattle.lrc_cli.proofs.TextLemmas.{run_text-one_session}
 
 both : (a b : Bool) → a ≡ true → b ≡ true → (a && b) ≡ true
 both true b e f = f
 both false b e f = absurd (cc)
 
-fitting_put : (prods : List Production) (e : Edit) → is_fitting_edit prods e ≡ true → is_put (change e) ≡ true → is_fitting_put prods e ≡ true
+-- ---- puts whose terms fit
+
+fitting_put : (prods : List Production) (e : Edit) → edit_fits prods e ≡ true → is_put (change e) ≡ true → is_fitting_put prods e ≡ true
 fitting_put prods (edit.Put path kind term) fits put = fits
 fitting_put prods (edit.Copy from to) fits put = absurd (cc)
 fitting_put prods edit.Show fits put = absurd (cc)
 fitting_put prods (edit.Forget place) fits put = absurd (cc)
 
-each_fitting : (prods : List Production) (edits : List Edit) → list_all (is_fitting_edit prods) edits ≡ true → list_all (λ (e : Edit). is_put (change e)) edits ≡ true → list_all (is_fitting_put prods) edits ≡ true
+each_fitting : (prods : List Production) (edits : List Edit) → list_all (edit_fits prods) edits ≡ true → list_all (λ (e : Edit). is_put (change e)) edits ≡ true → list_all (is_fitting_put prods) edits ≡ true
 each_fitting prods [] fit put = refl
 each_fitting prods (e ∷ es) fit put =
-    let fits = and_parts (is_fitting_edit prods e) (list_all (is_fitting_edit prods) es) fit in
+    let fits = and_parts (edit_fits prods e) (list_all (edit_fits prods) es) fit in
     let puts = and_parts (is_put (change e)) (list_all (λ (x : Edit). is_put (change x)) es) put in
     both _ _ (fitting_put prods e fits.0 puts.0) (each_fitting prods es fits.1 puts.1)
 
-pub fitting_puts : (g : Grammar) (sessions : List Script) (script : Script) → sessions ≡ script ∷ [] → IsTrue (list_all (is_fitting_script g) sessions)
+pub fitting_puts : (g : Grammar) (sessions : List Script) (script : Script) → sessions ≡ script ∷ [] → IsTrue (list_all (script_fits g.prods g.start) sessions)
     → IsTrue (list_all (λ (e : Edit). is_put (change e)) script.edits) → IsTrue (are_fitting_puts g.prods script.edits)
 fitting_puts g sessions script one fit puts =
-    let alone : list_all (is_fitting_script g) (script ∷ []) ≡ true = subst (λ (l : List Script). list_all (is_fitting_script g) l ≡ true) one fit in
-    let fits = and_parts (is_fitting_script g script) true alone in
-    each_fitting g.prods script.edits (and_parts _ (list_all (is_fitting_edit g.prods) script.edits) fits.0).1 puts
+    let alone : list_all (script_fits g.prods g.start) (script ∷ []) ≡ true = subst (λ (l : List Script). list_all (script_fits g.prods g.start) l ≡ true) one fit in
+    let fits = and_parts (script_fits g.prods g.start script) true alone in
+    each_fitting g.prods script.edits (and_parts _ (list_all (edit_fits g.prods) script.edits) fits.0).1 puts
+
+-- ---- a text is accepted in one way
+
+abbrev pub OneJob : Type 0
+OneJob = (bytes : List ℕ) (job other : Job) → Denotes bytes job → Denotes bytes other → job ≡ other
+
+pub same_accepted : OneJob → (bytes : List ℕ) (g h : Grammar) (ss ts : List Session) → IsAccepted bytes g ss → IsAccepted bytes h ts → (g ≡ h) × (ss ≡ ts)
+same_accepted one bytes g h ss ts a b =
+    let jobs : a.job ≡ b.job = one bytes a.job b.job a.denotes b.denotes in
+    let first : HasSessions b.job g (Ok ss) = subst (λ (j : Job). HasSessions j g (Ok ss)) jobs a.accepted in
+    let named = first.named in
+    let again = b.accepted.named in
+    let grammars : g ≡ h = cc in
+    let moved : HasSessions b.job h (Ok ss) = subst (λ (z : Grammar). HasSessions b.job z (Ok ss)) grammars first in
+    let here = moved.sessions in
+    let there = b.accepted.sessions in
+    (grammars, (cc))
+
+-- ---- the session that can be run
+
+-- the job of a session that can be run
+pub built : (bytes : List ℕ) (g : Grammar) (sessions : List Script) (script : Script) → IsPlainSession g sessions script → IsAccepted bytes g (map session sessions)
+    → IsBuilt bytes g (tree script.tree) (map change script.edits)
+built bytes g sessions script p accepted = record {
+  accepted = subst (λ (l : List Script). IsAccepted bytes g (map session l)) p.one accepted;
+  plain = p.plain;
+  puts = list_all-map is_put change script.edits ∙ p.puts;
+}
+
+-- one session alone among those that are accepted
+alone : (sessions : List Script) (s : Session) → map session sessions ≡ s ∷ [] → (script : Script) × (sessions ≡ script ∷ []) × (session script ≡ s)
+alone [] s e = absurd (cc)
+alone (x ∷ []) s e = (x, refl, (cc))
+alone (x ∷ (y ∷ rest)) s e = absurd (cc)
+
+-- there is none to run, and so the job is not built
+pub not_built : OneJob → (bytes : List ℕ) (g : Grammar) (sessions : List Script) → IsAccepted bytes g (map session sessions) → ((script : Script) → ¬ IsPlainSession g sessions script)
+    → (opening : Tree) (changes : List Change) → ¬ IsBuilt bytes g opening changes
+not_built one bytes g sessions accepted none opening changes b =
+    let s : Session = record { opening = opening; changes = changes } in
+    let same = same_accepted one bytes g g (map session sessions) (s ∷ []) accepted b.accepted in
+    let found = alone sessions s same.1 in
+    let edits : map change found.0.edits ≡ changes = ap (λ (x : Session). x.changes) found.2 in
+    none found.0 (record {
+      one = found.1;
+      plain = b.plain;
+      puts = sym (list_all-map is_put change found.0.edits) ∙ subst (λ (cs : List Change). list_all is_put cs ≡ true) (sym edits) b.puts;
+    })
+
+-- an accepted grammar is well formed
+well_formed : (bytes : List ℕ) (g : Grammar) (ss : List Session) → IsAccepted bytes g ss → IsTrue (is_well_formed g)
+well_formed bytes g ss a =
+    let found = no_fault_is_named a.job.grammar a.accepted.no_fault in
+    let named = found.1 in
+    let again = a.accepted.named in
+    let same : found.0 ≡ g = cc in
+    subst (λ (z : Grammar). IsTrue (is_well_formed z)) same found.2
+
+-- the text of the replies is that of the run
+pub run_of : (bytes text : List ℕ) (depth : ℕ) (g : Grammar) (t : Tree) (edits : List Edit) (all : Replies) (attrs : List Attr) → IsBuilt bytes g t (map change edits) → IsSessionOf g depth t edits all →
+    attrs ≡ attrs_of_sort g.sorts g.start → text ≡ one_session attrs all → IsRunOf bytes depth text
+run_of bytes text depth g t edits all attrs b s is e = record {
+  grammar = g;
+  opening = t;
+  changes = map change edits;
+  built = b;
+  replies = map reply_of all.replies;
+  last = option_map tree all.last;
+  runs = s (unparsed g.prods);
+  prints = e ∙ sym (run_text-one_session g attrs all (well_formed bytes g _ b.accepted) is);
+}
+
+-- ---- the text of a run is fixed by the bytes of the job
+
+only : (s r : Session) → s ∷ [] ≡ r ∷ [] → s ≡ r
+only s r e = cc
+
+-- a job that is built is so in one way
+same_session : OneJob → (bytes : List ℕ) (g h : Grammar) (t u : Tree) (cs ds : List Change) → IsBuilt bytes g t cs → IsBuilt bytes h u ds → (g ≡ h) × (t ≡ u) × (cs ≡ ds)
+same_session one bytes g h t u cs ds a b =
+    let same = same_accepted one bytes g h _ _ a.accepted b.accepted in
+    let session = only _ _ same.1 in
+    (same.0, ap (λ (s : Session). s.opening) session, ap (λ (s : Session). s.changes) session)
+
+-- a run of the replies, whichever its grammar, its tree and its changes are called
+moved : (depth : ℕ) (g h : Grammar) (t u : Tree) (cs ds : List Change) (rs : List Reply) (last : Option Tree) → g ≡ h → t ≡ u → cs ≡ ds →
+    ReplyRun g depth (unparsed g.prods) never_full t cs rs last → ReplyRun h depth (unparsed h.prods) never_full u ds rs last
+moved depth g h t u cs ds rs last e f k run =
+    subst (λ (z : List Change). ReplyRun h depth (unparsed h.prods) never_full u z rs last) k
+    (subst (λ (z : Tree). ReplyRun h depth (unparsed h.prods) never_full z cs rs last) f
+    (subst (λ (z : Grammar). ReplyRun z depth (unparsed z.prods) never_full t cs rs last) e run))
+
+same_text : (g h : Grammar) (rs qs : List Reply) (last end : Option Tree) → g ≡ h → rs ≡ qs → last ≡ end → run_text g (rs ∷ []) (last ∷ []) ≡ run_text h (qs ∷ []) (end ∷ [])
+same_text g h rs qs last end e f k =
+    ap (λ (z : Grammar). run_text z (rs ∷ []) (last ∷ [])) e ∙ ap (λ (z : List Reply). run_text h (z ∷ []) (last ∷ [])) f ∙ ap (λ (z : Option Tree). run_text h (qs ∷ []) (z ∷ [])) k
+
+pub one_text_of : OneJob → SessionsAreUnique → (bytes text other : List ℕ) (depth : ℕ) → IsRunOf bytes depth text → IsRunOf bytes depth other → text ≡ other
+one_text_of one unique bytes text other depth a b =
+    let same = same_session one bytes a.grammar b.grammar a.opening b.opening a.changes b.changes a.built b.built in
+    let here = moved depth a.grammar b.grammar a.opening b.opening a.changes b.changes a.replies a.last same.0 same.1 same.2 a.runs in
+    let answers = unique b.grammar depth (unparsed b.grammar.prods) b.opening b.changes a.replies b.replies a.last b.last (well_formed bytes b.grammar _ b.built.accepted) b.built.plain here b.runs in
+    a.prints ∙ same_text a.grammar b.grammar a.replies b.replies a.last b.last same.0 answers.0 answers.1 ∙ sym b.prints
+
+pub not_many : (b : Bool) (m n : ℕ) → (IsTrue b → n < m) × (n < m → IsTrue b) → b ≡ false → m ≤ n
+not_many b m n many no-more = elim (leb_tells m n) [
+  | inl h ↦ h.1
+  | inr h ↦ (let more = many.1 h.1 in absurd (cc))
+]

@@ -1,5 +1,5 @@
 -- Why an input is refused, and what is told of it.
-use Rattle.std.proofs.Common.{◌≡◌, ℕ, zero, suc, Bool, true, false, ◌<◌, ◌≤◌, List, length, take, Option, Some, None, Result, Ok, Err, OnOk, OnErr, IfErr, IsErrAnd, ◌⊎◌, inl, inr, ◌≢◌, refl, sym, arith, ap, ◌∙◌, subst, IsTrue}
+use Rattle.std.proofs.Common.{◌≡◌, ℕ, zero, suc, Bool, true, false, ◌<◌, ◌≤◌, ◌*◌, List, [], ◌∷◌, length, take, Option, Some, None, Result, Ok, Err, OnOk, OnErr, IfOk, IfErr, IsErrAnd, ◌⊎◌, inl, inr, ◌≢◌, refl, sym, arith, ap, ◌∙◌, subst, IsTrue}
 use Rattle.std.proofs.lemmas.List.{drop_all, take_all}
 use Rattle.std.proofs.lemmas.Grind.{common_steps}
 use Rattle.std.specs.Prelude.{String}
@@ -9,7 +9,7 @@ use Rattle.lrc_outside.specs.Count.{Rose}
 use Rattle.lrc_outside.specs.Known.{TakesUpTo, AppendsPart}
 use Rattle.lrc_words.specs.declared.command.Command.{Command}
 use Rattle.lrc_words.specs.declared.command.Verb.TheVariants as verb
-use Rattle.lrc_words.specs.CommandLine.{Says, texts}
+use Rattle.lrc_words.specs.CommandLine.{Says, IsWithinRanges, AreRefused, texts, verb_of}
 use Rattle.lrc_lines.specs.declared.failure.Failure.{Failure}
 use Rattle.lrc_lines.specs.declared.failure.Failure.TheVariants as f
 use Rattle.lrc_lines.specs.Lines.{status_of, IsStatus}
@@ -20,10 +20,15 @@ use Rattle.lrc_reader.specs.declared.fault.JobFault.{JobFault}
 use Rattle.lrc_reader.specs.declared.fault.JobFault.TheVariants as text
 use Rattle.lrc_job.specs.declared.fault.AcceptFault.{AcceptFault}
 use Rattle.lrc_job.specs.declared.fault.AcceptFault.TheVariants as accept
-use Rattle.lrc_stub.specs.Stub.{IsTextFault, IsAcceptFault}
+use Rattle.lrc_reader.specs.Faults.{FirstTextFault}
+use Rattle.lrc_job.specs.Job.{Session, HasSessions, IsFaultOf}
+use Rattle.lrc_meaning.specs.Tree.{Tree}
+use Rattle.lrc_meaning.specs.Editing.{Change}
+use Rattle.lrc_meaning.specs.Grammar.{Grammar}
 use Rattle.lrc_lines.specs.Taken.{failure_of_text, failure_of_job}
-use Rattle.lrc_cli.specs.Headline.{IsBuilt, IsRunOf}
-use Rattle.lrc_cli.specs.Causes.{IsUnbuilt, IsCause, no_job, not_accepted, too_many_rows, no_run, no_partitions, not_ordered, no_memory}
+use Rattle.lrc_cli.specs.Headline.{IsAccepted, IsBuilt, IsRunOf}
+use Rattle.lrc_cli.specs.Causes.{row_limit, IsUnordered, has_cycle, has_no_memory, IsUnbuilt, IsCause, no_job, not_accepted, too_many_rows, no_run, no_partitions, not_ordered, no_memory}
+use Rattle.lrc_cli.proofs.RunLemmas.{OneJob, same_accepted}
 use Rattle.lrc_cli.specs.Status.{input_limit, IsReadWhole, Done, Unwritten, IsRefused, unread, read, Refused, HoldsJob, is_refusal}
 
 pub keeps_itself : (a : Option (List ℕ)) → Keeps a a
@@ -31,10 +36,10 @@ keeps_itself None = tt
 keeps_itself (Some xs) = refl
 
 -- a command that is not built is refused before anything is read
-pub not_read : (words : List (String Global)) (left : Option (List ℕ)) (command : Command) (b : Bool) → Says (texts words) command → b ≡ false
+pub not_read : (words : List (String Global)) (left : Option (List ℕ)) (command : Command) (b : Bool) → Says (texts words) command → IsWithinRanges command → b ≡ false
     → (IsTrue b → (command.verb ≡ verb.Run) ⊎ (command.verb ≡ verb.Check)) × ((command.verb ≡ verb.Run) ⊎ (command.verb ≡ verb.Check) → IsTrue b) → Refused words left left f.NotBuilt
-not_read words left command b says unbuilt built =
-    record { command = command; says = says; refused = unread (λ e. contrary (built.1 (inl e)), λ e. contrary (built.1 (inr e))) (keeps_itself left) }
+not_read words left command b says within unbuilt built =
+    record { command = command; says = says; within = within; refused = unread (λ e. contrary (built.1 (inl e)), λ e. contrary (built.1 (inr e))) (keeps_itself left) }
   where
     contrary : IsTrue b → ⊥
     contrary h = absurd (cc)
@@ -53,7 +58,7 @@ may_be_cause (f.NotOrdered cycle) = true
 may_be_cause f.Memory = true
 
 is_cause : (command : Command) (input : List ℕ) (failure : Failure) → IsCause command input failure → may_be_cause failure ≡ true
-is_cause command input _ (no_job fault some is) = refl
+is_cause command input _ (no_job fault some is none) = refl
 is_cause command input _ (not_accepted job fault some denotes is) = refl
 is_cause command input _ (too_many_rows g sessions accepted run many) = refl
 is_cause command input _ (no_run g sessions accepted run few none) = refl
@@ -72,10 +77,10 @@ pub never_write : (command : Command) (input : List ℕ) (failure : Failure) →
 never_write command input failure c e = let known = is_cause command input failure c in absurd (cc)
 
 -- an input that was read and is refused for a cause
-pub refused_for : (words : List (String Global)) (left left' : Option (List ℕ)) (command : Command) (input : List ℕ) (failure : Failure) → Says (texts words) command
+pub refused_for : (words : List (String Global)) (left left' : Option (List ℕ)) (command : Command) (input : List ℕ) (failure : Failure) → Says (texts words) command → IsWithinRanges command
     → TakesUpTo input_limit left left' input → IsCause command input failure → Refused words left left' failure
-refused_for words left left' command input failure says taken cause =
-    record { command = command; says = says; refused = read input failure taken cause }
+refused_for words left left' command input failure says within taken cause =
+    record { command = command; says = says; within = within; refused = read input failure taken cause }
 
 few : (n : ℕ) (xs : List ℕ) → length (take n xs) < n → length xs ≤ n
 few n xs h = grind (arith, common_steps)
@@ -130,15 +135,15 @@ unfolding IsStatus
 is_done = inl refl
 
 -- a fault of the text is a cause, and so is one of the job
-pub text_cause : (command : Command) (input : List ℕ) (fault : JobFault) → IsTextFault input fault → IsCause command input (failure_of_text fault)
-text_cause command input text.TooLong is = no_job text.TooLong (λ e. absurd (cc)) is
-text_cause command input (text.Lex fault) is = no_job (text.Lex fault) (λ e. absurd (cc)) is
-text_cause command input (text.Expected at) is = no_job (text.Expected at) (λ e. absurd (cc)) is
-text_cause command input (text.LimitReached at limit) is = no_job (text.LimitReached at limit) (λ e. absurd (cc)) is
-text_cause command input (text.NestedTooDeep at) is = no_job (text.NestedTooDeep at) (λ e. absurd (cc)) is
-text_cause command input text.Memory is = no_memory
+pub text_cause : (command : Command) (input : List ℕ) (fault : JobFault) → (fault ≢ text.Memory → FirstTextFault input fault) → (fault ≢ text.Memory → (job : Job) → ¬ Denotes input job) → IsCause command input (failure_of_text fault)
+text_cause command input text.TooLong is none = no_job text.TooLong (λ e. absurd (cc)) (is (λ e. absurd (cc))) (none (λ e. absurd (cc)))
+text_cause command input (text.Lex fault) is none = no_job (text.Lex fault) (λ e. absurd (cc)) (is (λ e. absurd (cc))) (none (λ e. absurd (cc)))
+text_cause command input (text.Expected at) is none = no_job (text.Expected at) (λ e. absurd (cc)) (is (λ e. absurd (cc))) (none (λ e. absurd (cc)))
+text_cause command input (text.LimitReached at limit) is none = no_job (text.LimitReached at limit) (λ e. absurd (cc)) (is (λ e. absurd (cc))) (none (λ e. absurd (cc)))
+text_cause command input (text.NestedTooDeep at) is none = no_job (text.NestedTooDeep at) (λ e. absurd (cc)) (is (λ e. absurd (cc))) (none (λ e. absurd (cc)))
+text_cause command input text.Memory is none = no_memory
 
-pub job_cause : (command : Command) (input : List ℕ) (job : Job) (fault : AcceptFault) → Denotes input job → IsAcceptFault job fault → IsCause command input (failure_of_job fault)
+pub job_cause : (command : Command) (input : List ℕ) (job : Job) (fault : AcceptFault) → Denotes input job → IsFaultOf job fault → IsCause command input (failure_of_job fault)
 job_cause command input job (accept.Grammar fault) denotes is = not_accepted job (accept.Grammar fault) (λ e. absurd (cc)) denotes is
 job_cause command input job (accept.Term session edit fault) denotes is = not_accepted job (accept.Term session edit fault) (λ e. absurd (cc)) denotes is
 job_cause command input job (accept.NotStart session) denotes is = not_accepted job (accept.NotStart session) (λ e. absurd (cc)) denotes is
@@ -171,3 +176,97 @@ is_refusal_of f.NotOneSession h = refl
 is_refusal_of f.NotBuilt h = refl
 is_refusal_of (f.NotOrdered cycle) h = refl
 is_refusal_of f.Memory h = absurd (elim h [ inl e ↦ above 7 5 (omega arith) e | inr e ↦ above 7 6 (omega arith) e ])
+
+-- a grammar that is not ordered is a cause of `check`
+pub unordered_cause : (command : Command) (input : List ℕ) (g : Grammar) (sessions : List Session) (failure : Failure) → IsAccepted input g sessions → command.verb ≡ verb.Check
+    → IsUnordered g failure → IsCause command input failure
+unordered_cause command input g sessions _ accepted check (has_cycle cycle is) = not_ordered g sessions cycle accepted check is
+unordered_cause command input g sessions _ accepted check has_no_memory = no_memory
+
+-- the statuses 5 and 6, and want of memory, are all that is left
+pub done_or_memory : (failure : Failure) → failure ≢ f.Usage → failure ≢ f.Read → failure ≢ f.Write → ¬ IsTrue (is_refusal failure) → (status_of failure ≡ 0) ⊎ (status_of failure ≡ 7)
+done_or_memory f.Usage a b c d = absurd (a refl)
+done_or_memory f.Read a b c d = absurd (b refl)
+done_or_memory f.Write a b c d = absurd (c refl)
+done_or_memory (f.Text fault) a b c d = absurd (d refl)
+done_or_memory (f.Accept fault) a b c d = absurd (d refl)
+done_or_memory f.TooManyRows a b c d = absurd (d refl)
+done_or_memory f.NotOneSession a b c d = absurd (d refl)
+done_or_memory f.NotBuilt a b c d = absurd (d refl)
+done_or_memory (f.NotOrdered cycle) a b c d = absurd (d refl)
+done_or_memory f.Memory a b c d = inr refl
+
+pub is_write : (failure : Failure) → status_of failure ≡ 4 → failure ≡ f.Write
+is_write f.Usage e = absurd (contrary 2 4 (omega arith) e)
+is_write f.Read e = absurd (contrary 3 4 (omega arith) e)
+is_write f.Write e = refl
+is_write (f.Text fault) e = absurd (above 5 4 (omega arith) e)
+is_write (f.Accept fault) e = absurd (above 5 4 (omega arith) e)
+is_write f.TooManyRows e = absurd (above 5 4 (omega arith) e)
+is_write f.NotOneSession e = absurd (above 5 4 (omega arith) e)
+is_write f.NotBuilt e = absurd (above 5 4 (omega arith) e)
+is_write (f.NotOrdered cycle) e = absurd (above 6 4 (omega arith) e)
+is_write f.Memory e = absurd (above 7 4 (omega arith) e)
+
+-- words that say something are taken
+pub not_usage : (words : List (List ℕ)) (command : Command) → Says words command → AreRefused words ⊎ (verb_of words ≡ None) → ⊥
+not_usage words command says (inl r) = r.1 says.taken
+not_usage words command says (inr n) = let verb = says.verb in absurd (cc)
+
+same_command : (words : List (List ℕ)) (c d : Command) → Says words c → Says words d → (c.verb ≡ d.verb)
+same_command words c d a b = let one = a.verb in let other = b.verb in cc
+
+-- ---- a source that holds a job that can be run is not refused
+
+two_ways : (job : Job) (g h : Grammar) (ss : List Session) (fault : AcceptFault) → HasSessions job g (Ok ss) → HasSessions job h (Err fault) → ⊥
+two_ways job g h ss fault a b =
+    let named = a.named in
+    let again = b.named in
+    let same : g ≡ h = cc in
+    let moved : HasSessions job h (Ok ss) = subst (λ (z : Grammar). HasSessions job z (Ok ss)) same a in
+    let here = moved.sessions in
+    let there = b.sessions in
+    absurd (cc)
+
+few_rows : (rows sessions : ℕ) → sessions ≡ 1 → rows ≤ 16777216 → row_limit < rows * sessions → ⊥
+few_rows rows sessions one few many = let product : rows * sessions ≡ rows = ap (λ (n : ℕ). rows * n) one ∙ omega arith in absurd (omega arith)
+
+-- a job with sessions has no fault
+no_fault : (job : Job) (g : Grammar) (ss : List Session) (fault : AcceptFault) → HasSessions job g (Ok ss) → fault ≢ accept.Memory → IsFaultOf job fault → ⊥
+no_fault job g ss (accept.Grammar fault) has some is = let none = has.no_fault in absurd (cc)
+no_fault job g ss (accept.Term s e fault) has some is = two_ways job g is.0 ss _ has is.1
+no_fault job g ss (accept.NotStart s) has some is = two_ways job g is.0 ss _ has is.1
+no_fault job g ss accept.Memory has some is = absurd (some refl)
+
+not_refused_for : OneJob → (command : Command) (bytes : List ℕ) (g : Grammar) (opening : Tree) (changes : List Change) (failure : Failure) → IsWithinRanges command → command.verb ≡ verb.Run
+    → IsBuilt bytes g opening changes → IsTrue (is_refusal failure) → IsCause command bytes failure → ⊥
+not_refused_for one command bytes g opening changes _ within run b r (no_job fault some is none) = none b.accepted.job b.accepted.denotes
+not_refused_for one command bytes g opening changes _ within run b r (not_accepted job fault some denotes is) =
+    no_fault job g _ fault (subst (λ (j : Job). HasSessions j g (Ok (record { opening = opening; changes = changes } ∷ []))) (one bytes b.accepted.job job b.accepted.denotes denotes) b.accepted.accepted) some is
+not_refused_for one command bytes g opening changes _ within run b r (too_many_rows h sessions accepted verb many) =
+    let same = same_accepted one bytes h g sessions _ accepted b.accepted in
+    few_rows command.rows (length sessions) (ap length same.1) within.rows.1 many
+not_refused_for one command bytes g opening changes _ within run b r (no_run h sessions accepted verb few none) =
+    let same = same_accepted one bytes h g sessions _ accepted b.accepted in
+    none opening changes (subst (λ (z : Grammar). IsBuilt bytes z opening changes) (sym same.0) b)
+not_refused_for one command bytes g opening changes _ within run b r (no_partitions h sessions accepted verb ordered) = absurd (cc)
+not_refused_for one command bytes g opening changes _ within run b r (not_ordered h sessions cycle accepted verb is) = absurd (cc)
+not_refused_for one command bytes g opening changes _ within run b r no_memory = absurd (cc)
+
+pub not_refused : OneJob → (words : List (String Global)) (command : Command) (left left' : Option (List ℕ)) (failure : Failure) → Says (texts words) command → command.verb ≡ verb.Run → HoldsJob left
+    → IsTrue (is_refusal failure) → Refused words left left' failure → ⊥
+not_refused one words command None left' failure says run job r refused = job
+not_refused one words command (Some bytes) left' failure says run job r refused = by failure r refused.refused
+  where
+    verb-is : refused.command.verb ≡ verb.Run
+    verb-is = same_command (texts words) refused.command command refused.says says ∙ run
+    by : (failure : Failure) → IsTrue (is_refusal failure) → IsRefused refused.command (Some bytes) left' failure → ⊥
+    by _ r (unread unbuilt keeps) = unbuilt.0 verb-is
+    by _ r (read input failure taken cause) =
+        let short : length bytes ≤ 16777216 = job.3.accepted.denotes.short in
+        let whole : input ≡ bytes = taken.0 ∙ take_all input_limit bytes (omega arith) in
+        not_refused_for one refused.command bytes job.0 job.1 job.2 failure refused.within verb-is job.3 r (subst (λ (z : List ℕ). IsCause refused.command z failure) whole cause)
+
+pub if_ok : {T E : Type 0} (r : Result T E) (P Q : T → Type 0) → IfOk r P → ((x : T) → P x → Q x) → IfOk r Q
+if_ok (Ok x) P Q p q = q x p
+if_ok (Err e) P Q p q = tt

@@ -15,7 +15,8 @@ use Rattle.lrc_reader.specs.declared.fault.JobFault.{JobFault}
 use Rattle.lrc_reader.specs.declared.fault.JobFault.TheVariants as text
 use Rattle.lrc_job.specs.declared.fault.AcceptFault.{AcceptFault}
 use Rattle.lrc_job.specs.declared.fault.AcceptFault.TheVariants as accept
-use Rattle.lrc_stub.specs.Stub.{Opened, IsTextFault, IsAcceptFault}
+use Rattle.lrc_reader.specs.Faults.{FirstTextFault}
+use Rattle.lrc_job.specs.Job.{Session, IsFaultOf}
 use Rattle.lrc_lines.specs.declared.failure.Cycle.{Cycle}
 use Rattle.lrc_lines.specs.declared.failure.Failure.{Failure}
 use Rattle.lrc_lines.specs.declared.failure.Failure.TheVariants as f
@@ -62,13 +63,13 @@ IsUnbuilt command = (command.verb ≢ verb.Run) × (command.verb ≢ verb.Check)
 
 -- Why the input is refused.
 pub data IsCause (command : Command) (input : List ℕ) : Failure → Type 0 where
-  no_job : (fault : JobFault) → fault ≢ text.Memory → IsTextFault input fault → IsCause command input (f.Text fault)
-  not_accepted : (job : Job) (fault : AcceptFault) → fault ≢ accept.Memory → Denotes input job → IsAcceptFault job fault → IsCause command input (f.Accept fault)
-  too_many_rows : (g : Grammar) (sessions : List Opened) → IsAccepted input g sessions → command.verb ≡ verb.Run
+  no_job : (fault : JobFault) → fault ≢ text.Memory → FirstTextFault input fault → ((job : Job) → ¬ Denotes input job) → IsCause command input (f.Text fault)
+  not_accepted : (job : Job) (fault : AcceptFault) → fault ≢ accept.Memory → Denotes input job → IsFaultOf job fault → IsCause command input (f.Accept fault)
+  too_many_rows : (g : Grammar) (sessions : List Session) → IsAccepted input g sessions → command.verb ≡ verb.Run
       → row_limit < command.rows * length sessions → IsCause command input f.TooManyRows
-  no_run : (g : Grammar) (sessions : List Opened) → IsAccepted input g sessions → command.verb ≡ verb.Run → command.rows * length sessions ≤ row_limit
+  no_run : (g : Grammar) (sessions : List Session) → IsAccepted input g sessions → command.verb ≡ verb.Run → command.rows * length sessions ≤ row_limit
       → ((opening : Tree) (changes : List Change) → ¬ IsBuilt input g opening changes) → IsCause command input f.NotBuilt
-  no_partitions : (g : Grammar) (sessions : List Opened) → IsAccepted input g sessions → command.verb ≡ verb.Check → IsOrdered g [] → IsCause command input f.NotBuilt
-  not_ordered : (g : Grammar) (sessions : List Opened) (cycle : Cycle) → IsAccepted input g sessions → command.verb ≡ verb.Check → IsCycle g cycle
+  no_partitions : (g : Grammar) (sessions : List Session) → IsAccepted input g sessions → command.verb ≡ verb.Check → IsOrdered g [] → IsCause command input f.NotBuilt
+  not_ordered : (g : Grammar) (sessions : List Session) (cycle : Cycle) → IsAccepted input g sessions → command.verb ≡ verb.Check → IsCycle g cycle
       → IsCause command input (f.NotOrdered cycle)
   no_memory : IsCause command input f.Memory

@@ -1,25 +1,20 @@
 -- What a run is: from the bytes of a job to the text of its replies.
-use Rattle.std.specs.Prelude.{◌≡◌, ℕ, Bool, true, false, IsTrue, List, [], ◌∷◌, map, Option}
+use Rattle.std.specs.Prelude.{◌≡◌, ℕ, Bool, true, false, IsTrue, List, [], ◌∷◌, Option, Ok}
 use Rattle.std.specs.List.{list_all}
 use Rattle.lrc_base.specs.declared.job.Job.{Job}
-use Rattle.lrc_base.specs.declared.job.Script.{Script}
-use Rattle.lrc_meaning.specs.Tree.{Tree, tree}
+use Rattle.lrc_meaning.specs.Tree.{Tree}
 use Rattle.lrc_meaning.specs.Grammar.{Grammar}
 use Rattle.lrc_meaning.specs.Plain.{is_plain}
-use Rattle.lrc_meaning.specs.Editing.{Change, change, put, copy, show, forget, Reply, ReplyRun, never_full}
+use Rattle.lrc_meaning.specs.Editing.{Change, put, copy, show, forget, Reply, ReplyRun, never_full}
 use Rattle.lrc_meaning.specs.Text.{unparsed, run_text}
 use Rattle.lrc_reader.specs.Denotes.{Denotes}
-use Rattle.lrc_stub.specs.Stub.{Opened, IsAcceptedAs}
-
--- the tree and the changes of a session
-abbrev pub session_of : Script → Opened
-session_of script = record { opening = tree script.tree; changes = map change script.edits }
+use Rattle.lrc_job.specs.Job.{Session, HasSessions}
 
 -- The bytes are a job that is accepted, of this grammar and with these sessions.
-pub record IsAccepted (bytes : List ℕ) (grammar : Grammar) (sessions : List Opened) : Type 0 where
+pub record IsAccepted (bytes : List ℕ) (grammar : Grammar) (sessions : List Session) : Type 0 where
   pub job : Job
   pub denotes : Denotes bytes job
-  pub accepted : IsAcceptedAs job grammar sessions
+  pub accepted : HasSessions job grammar (Ok sessions)
 
 abbrev pub is_put : Change → Bool
 is_put (put place kind new) = true

@@ -8,7 +8,7 @@ use Rattle.lrc_meaning.specs.Editing.{Change}
 use Rattle.lrc_outside.specs.Known.{TakesUpTo, AppendsPart}
 use Rattle.lrc_words.specs.declared.command.Command.{Command}
 use Rattle.lrc_words.specs.declared.command.Verb.TheVariants as verb
-use Rattle.lrc_words.specs.CommandLine.{Says, texts}
+use Rattle.lrc_words.specs.CommandLine.{Says, IsWithinRanges, texts}
 use Rattle.lrc_lines.specs.declared.failure.Failure.{Failure}
 use Rattle.lrc_lines.specs.declared.failure.Failure.TheVariants as f
 use Rattle.lrc_cli.specs.Headline.{IsBuilt, IsRunOf}
@@ -55,6 +55,7 @@ pub data IsRefused (command : Command) (left left' : Option (List ℕ)) : Failur
 pub record Refused (words : List (String Global)) (left left' : Option (List ℕ)) (failure : Failure) : Type 0 where
   pub command : Command
   pub says : Says (texts words) command
+  pub within : IsWithinRanges command
   pub refused : IsRefused command left left' failure
 
 -- the source tells its bytes, and they are a job that can be run

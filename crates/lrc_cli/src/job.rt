@@ -1,13 +1,13 @@
-ghost use Rattle.std.specs.Prelude.{IfOk, IfErr, IsTrue, map};
-ghost use Rattle.std.specs.List.{list_all};
+ghost use Rattle.std.specs.Prelude.{IfOk, IfErr, map};
+ghost use Rattle.lrc_job.specs.Job.{session};
 ghost use Rattle.lrc_grammar.specs.Grammar.{grammar_of};
-ghost use Rattle.lrc_stub.specs.Stub.{is_fitting_script};
 ghost use Rattle.lrc_words.specs.declared.command.Command.{Command};
-ghost use Rattle.lrc_cli.specs.Headline.{session_of, IsAccepted};
+ghost use Rattle.lrc_cli.specs.Headline.{IsAccepted};
 ghost use Rattle.lrc_cli.specs.Causes.{IsCause};
 
 use lrc_lines::Failure;
-use lrc_stub::{Accepted, accept, read};
+use lrc_job::{Accepted, accept};
+use lrc_reader::read_job;
 use std::alloc::Global;
 
 /// The grammar and the sessions of the job that the bytes denote.
@@ -16,10 +16,9 @@ use std::alloc::Global;
 ///
 /// The first fault of the text, else of the grammar or of a session, and want of memory.
 pub fn accepted_job(alloc: Global, bytes: &[u8]) -> Result<Accepted, Failure>
-    ensures accepted { IfOk result (λ a. IsAccepted bytes.now (grammar_of a.grammar) (map session_of a.sessions)) }
-    ensures fitting { IfOk result (λ a. IsTrue (list_all (is_fitting_script (grammar_of a.grammar)) a.sessions)) }
+    ensures accepted { IfOk result (λ a. IsAccepted bytes.now (grammar_of a.grammar) (map session a.sessions)) }
     ensures cause { IfErr result (λ failure. (command : Command) → IsCause command bytes.now failure) }
 {
-    let job = read(alloc, bytes)?;
+    let job = read_job(alloc, bytes)?;
     Ok(accept(alloc, &job)?)
 }

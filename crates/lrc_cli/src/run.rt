@@ -6,10 +6,10 @@ ghost use Rattle.lrc_meaning.specs.Plain.{is_plain};
 ghost use Rattle.lrc_meaning.specs.Tree.{Tree};
 ghost use Rattle.lrc_meaning.specs.Editing.{Change, change};
 ghost use Rattle.lrc_grammar.specs.Grammar.{grammar_of};
-ghost use Rattle.lrc_stub.specs.Stub.{is_fitting_script};
+ghost use Rattle.lrc_job.specs.Job.{session};
 ghost use Rattle.lrc_words.specs.declared.command.Command.{Command};
 ghost use Rattle.lrc_words.specs.declared.command.Verb.TheVariants as v;
-ghost use Rattle.lrc_cli.specs.Headline.{session_of, is_put, IsAccepted, IsRunOf};
+ghost use Rattle.lrc_cli.specs.Headline.{is_put, IsAccepted, IsRunOf};
 ghost use Rattle.lrc_cli.specs.Causes.{row_limit, IsCause};
 ghost use Rattle.lrc_cli.specs.Running.{IsPlainSession};
 
@@ -17,9 +17,10 @@ use crate::job::accepted_job;
 use crate::text::session_text;
 use lrc_base::{Edit, Memory, Script};
 use lrc_grammar::attrs_of_sort;
+use lrc_job::Accepted;
 use lrc_lines::Failure;
 use lrc_script::{one_session, replies};
-use lrc_stub::{Accepted, accepted_is_one};
+use lrc_reader::one_job;
 use lrc_words::Command;
 use std::alloc::Global;
 
@@ -67,9 +68,8 @@ fn session_run(
     script: &Script,
     depth: u32,
 ) -> Result<Vec<u8>, Memory>
-    requires plain { IsPlainSession (grammar_of accepted.now.grammar) accepted.now.sessions script.now }
-    requires fitting { IsTrue (list_all (is_fitting_script (grammar_of accepted.now.grammar)) accepted.now.sessions) }
-    ensures { IfOk result (λ text. (bytes : List ℕ) → IsAccepted bytes (grammar_of accepted.now.grammar) (map session_of accepted.now.sessions) → IsRunOf bytes depth text.items) }
+    requires { IsPlainSession (grammar_of accepted.now.grammar) accepted.now.sessions script.now }
+    ensures { IfOk result (λ text. (bytes : List ℕ) → IsAccepted bytes (grammar_of accepted.now.grammar) (map session accepted.now.sessions) → IsRunOf bytes depth text.items) }
 {
     let grammar = &accepted.grammar;
     let replies = replies(alloc, grammar, script, depth)?;
@@ -87,12 +87,14 @@ pub fn run_text(alloc: Global, command: &Command, bytes: &[u8]) -> Result<Vec<u8
     ensures text { IfOk result (λ text. IsRunOf bytes.now command.now.depth text.items) }
     ensures cause { IfErr result (IsCause command.now bytes.now) }
 {
-    accepted_is_one();
+    one_job();
     let accepted = accepted_job(alloc, bytes)?;
     if are_rows_too_many(command.rows, accepted.sessions.len()) {
         return Err(Failure::TooManyRows);
     }
-    let script = plain_session(&accepted).ok_or(Failure::NotBuilt)?;
+    let Some(script) = plain_session(&accepted) else {
+        return Err(Failure::NotBuilt);
+    };
     Ok(session_run(alloc, &accepted, script, command.depth)?)
 }
 
@@ -101,6 +103,6 @@ pub fn run_text(alloc: Global, command: &Command, bytes: &[u8]) -> Result<Vec<u8
 pub fn one_text()
     ensures { (bytes text other : List ℕ) (depth : ℕ) → IsRunOf bytes depth text → IsRunOf bytes depth other → text ≡ other }
 {
-    accepted_is_one();
+    one_job();
     one_session();
 }

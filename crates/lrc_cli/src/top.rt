@@ -3,7 +3,7 @@ ghost use Rattle.std.specs.Io.KnownBytes.{Keeps};
 ghost use Rattle.lrc_outside.specs.Count.{Rose};
 ghost use Rattle.lrc_words.specs.declared.command.Command.{Command};
 ghost use Rattle.lrc_words.specs.declared.command.Verb.TheVariants as v;
-ghost use Rattle.lrc_words.specs.CommandLine.{Says, AreRefused, texts, verb_of};
+ghost use Rattle.lrc_words.specs.CommandLine.{Says, IsWithinRanges, AreRefused, texts, verb_of};
 ghost use Rattle.lrc_lines.specs.Lines.{status_of, line_of, IsStatus};
 ghost use Rattle.lrc_lines.specs.Gains.{GainsLine};
 ghost use Rattle.lrc_lines.specs.declared.failure.Failure.{Failure};
@@ -15,6 +15,7 @@ ghost use Rattle.lrc_cli.specs.Status.{Done, Unwritten, Refused, HoldsJob, is_re
 use crate::check::check;
 use crate::run::{one_text, run_text};
 use lrc_lines::{Failure, put_line};
+use lrc_reader::one_job;
 use lrc_outside::{Sink, Source, put_all, take_up_to};
 use lrc_words::{Command, Verb, WordsFault, read_words};
 use std::alloc::Global;
@@ -30,6 +31,7 @@ const INPUT_LIMIT: usize = 16_777_217;
 /// Usage, where they are not taken or ask for nothing that is known, and want of memory.
 fn command_of(alloc: Global, words: &[String]) -> Result<Command, Failure>
     ensures says { IfOk result (Says (texts words.now)) }
+    ensures within { IfOk result IsWithinRanges }
     ensures usage { result ≡ Err f.Usage → AreRefused (texts words.now) ⊎ (verb_of (texts words.now) ≡ None) }
     ensures fault { IfErr result (λ failure. (failure ≡ f.Usage) ⊎ (failure ≡ f.Memory)) }
 {
@@ -137,6 +139,7 @@ pub fn lrc<R: Threads + Sync, S: Source, O: Sink, E: Sink>(
     ensures out_count { O.faults out.old ≤ O.faults out.new }
     ensures err_count { E.faults err.old ≤ E.faults err.new }
 {
+    one_job();
     one_text();
     match answered(alloc, words, source, out) {
         Ok(()) => 0,
