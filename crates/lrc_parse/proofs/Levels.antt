@@ -13,7 +13,7 @@ use Rattle.lrc_parse.proofs.Parts.{exact_nothing}
 use Rattle.lrc_parse.proofs.Grow.{Sub}
 use Rattle.lrc_parse.proofs.TameRich.{tame_nothing}
 use Rattle.lrc_parse.proofs.Places.{starts_next, stays_wide, ended_same, ended_first}
-use Rattle.lrc_parse.proofs.Reached.{Reached, reached_beyond}
+use Rattle.lrc_parse.proofs.Passed.{Passed, passed_beyond}
 use Rattle.lrc_parse.proofs.Deep.{deeper_wide, full_chosen}
 use Rattle.lrc_parse.proofs.Staged.{Staged, staged, whole}
 
@@ -22,13 +22,13 @@ unset h = true_not_false false h refl
 
 module _ {I T Q A : Type 0} (kind : T → ℕ) (le : I → I → Type 0) (wide : Widening le) (s : Shape) (filled : s.empty ≡ false)
     (body : I → (Q → Limited T A) → Q → Limited T A) (read : I → (Q → List T → Reading T A) → Q → List T → Reading T A)
-    (base : (q : Q) → (i : I) × (u : List T) × (x : A) × (body i (λ _. Beyond nested) q).derives u x)
+    (base : (q : Q) → (i : I) × (u : List T) × (x : A) × (body i (λ _. Beyond kind s.first nested) q).derives u x)
     (full : (o p : Bool) (N : I × ℕ → Q → Limited T A) (a : I × ℕ → Q → List T → Reading T A) (j : I × ℕ) →
     ((q : Q) → Staged kind (Deeper le) o false p s (λ k. N k q) (λ k. a k q) j) →
     (q : Q) → Staged kind (Deeper le) o true p s (λ k. body k.0 (N k) q) (λ k. read k.0 (a k) q) j) where
   -- the languages and readings at each number of levels
   abbrev at_level : Q → I × ℕ → Limited T A
-  at_level q j = Levels (body j.0) j.1 q
+  at_level q j = Levels kind s.first (body j.0) j.1 q
 
   abbrev derives_level : Q → I × ℕ → Lang T A
   derives_level q j = (at_level q j).derives
@@ -38,7 +38,7 @@ module _ {I T Q A : Type 0} (kind : T → ℕ) (le : I → I → Type 0) (wide :
 
   -- a body whose parts have so many levels
   abbrev deep : Q → I × ℕ → Limited T A
-  deep q j = body j.0 (Levels (body j.0) j.1) q
+  deep q j = body j.0 (Levels kind s.first (body j.0) j.1) q
 
   abbrev derives_deep : Q → I × ℕ → Lang T A
   derives_deep q j = (deep q j).derives
@@ -47,11 +47,11 @@ module _ {I T Q A : Type 0} (kind : T → ℕ) (le : I → I → Type 0) (wide :
   reads_deep q j = read j.0 (read_levels kind (read j.0) s.first j.1) q
 
   -- at a number of levels that is the same within all limits
-  core : (n : ℕ) (j : I × ℕ) (q : Q) → Staged kind (Deeper le) false false false s (λ k. Levels (body k.0) n q) (λ k. read_levels kind (read k.0) s.first n q) j
+  core : (n : ℕ) (j : I × ℕ) (q : Q) → Staged kind (Deeper le) false false false s (λ k. Levels kind s.first (body k.0) n q) (λ k. read_levels kind (read k.0) s.first n q) j
   unfolding Levels read_levels
   core zero j q = record {
     exact = λ k. exact_nothing kind s nested;
-    reached = λ k. reached_beyond kind s.first nested;
+    passed = λ k. passed_beyond kind s nested;
     grows = λ i k l u x m. m;
     tame = λ k. tame_nothing kind s nested filled;
     begins = λ h. absurd (unset h);
@@ -59,9 +59,9 @@ module _ {I T Q A : Type 0} (kind : T → ℕ) (le : I → I → Type 0) (wide :
     placed = λ h. absurd (unset h);
   }
   core (suc n) j q =
-      let e : _ = full false false (λ k. Levels (body k.0) n) (λ k. read_levels kind (read k.0) s.first n) j (λ r. core n j r) q in record {
+      let e : _ = full false false (λ k. Levels kind s.first (body k.0) n) (λ k. read_levels kind (read k.0) s.first n) j (λ r. core n j r) q in record {
         exact = e.exact;
-        reached = e.reached;
+        passed = e.passed;
         grows = e.grows;
         tame = e.tame;
         begins = λ h. absurd (unset h);
@@ -78,27 +78,27 @@ module _ {I T Q A : Type 0} (kind : T → ℕ) (le : I → I → Type 0) (wide :
   read_or zero a b = a
   read_or (suc d) a b = b
 
-  module _ (i j : I) (m n : ℕ) (sub : (q : Q) → Sub (Levels (body i) m q).derives (Levels (body j) n q).derives) where
+  module _ (i j : I) (m n : ℕ) (sub : (q : Q) → Sub (Levels kind s.first (body i) m q).derives (Levels kind s.first (body j) n q).derives) where
     -- two of the languages, with the one in the other
     abbrev two : I × ℕ → Q → Limited T A
-    two k q = first_or k.1 (Levels (body i) m q) (Levels (body j) n q)
+    two k q = first_or k.1 (Levels kind s.first (body i) m q) (Levels kind s.first (body j) n q)
 
     abbrev reads_two : I × ℕ → Q → List T → Reading T A
     reads_two k q = read_or k.1 (read_levels kind (read i) s.first m q) (read_levels kind (read j) s.first n q)
 
-    two_exact : (q : Q) (d : ℕ) → Exact kind s (first_or d (Levels (body i) m q) (Levels (body j) n q)).derives (read_or d (read_levels kind (read i) s.first m q) (read_levels kind (read j) s.first n q))
+    two_exact : (q : Q) (d : ℕ) → Exact kind s (first_or d (Levels kind s.first (body i) m q) (Levels kind s.first (body j) n q)).derives (read_or d (read_levels kind (read i) s.first m q) (read_levels kind (read j) s.first n q))
     two_exact q zero = (core m (i, m) q).exact (i, m)
     two_exact q (suc d) = (core n (j, n) q).exact (j, n)
 
-    two_reached : (q : Q) (d : ℕ) → Reached (first_or d (Levels (body i) m q) (Levels (body j) n q)) (read_or d (read_levels kind (read i) s.first m q) (read_levels kind (read j) s.first n q))
-    two_reached q zero = (core m (i, m) q).reached (i, m)
-    two_reached q (suc d) = (core n (j, n) q).reached (j, n)
+    two_passed : (q : Q) (d : ℕ) → Passed kind s (first_or d (Levels kind s.first (body i) m q) (Levels kind s.first (body j) n q)) (read_or d (read_levels kind (read i) s.first m q) (read_levels kind (read j) s.first n q))
+    two_passed q zero = (core m (i, m) q).passed (i, m)
+    two_passed q (suc d) = (core n (j, n) q).passed (j, n)
 
     two_tame : (q : Q) (d : ℕ) → Tame kind s (read_or d (read_levels kind (read i) s.first m q) (read_levels kind (read j) s.first n q))
     two_tame q zero = (core m (i, m) q).tame (i, m)
     two_tame q (suc d) = (core n (j, n) q).tame (j, n)
 
-    two_grows : (q : Q) (d f : ℕ) → d ≤ f → Sub (first_or d (Levels (body i) m q) (Levels (body j) n q)).derives (first_or f (Levels (body i) m q) (Levels (body j) n q)).derives
+    two_grows : (q : Q) (d f : ℕ) → d ≤ f → Sub (first_or d (Levels kind s.first (body i) m q) (Levels kind s.first (body j) n q)).derives (first_or f (Levels kind s.first (body i) m q) (Levels kind s.first (body j) n q)).derives
     two_grows q zero zero h u x e = e
     two_grows q zero (suc f) h u x e = sub q u x e
     two_grows q (suc d) zero h u x e = absurd (omega (arith, h))
@@ -107,7 +107,7 @@ module _ {I T Q A : Type 0} (kind : T → ℕ) (le : I → I → Type 0) (wide :
     two_staged : (k : I × ℕ) (q : Q) → Staged kind (Deeper le) false false false s (λ d. two d q) (λ d. reads_two d q) k
     two_staged k q = record {
       exact = λ d. two_exact q d.1;
-      reached = λ d. two_reached q d.1;
+      passed = λ d. two_passed q d.1;
       grows = λ d f l. two_grows q d.1 f.1 l.1;
       tame = λ d. two_tame q d.1;
       begins = λ h. absurd (unset h);
@@ -115,10 +115,10 @@ module _ {I T Q A : Type 0} (kind : T → ℕ) (le : I → I → Type 0) (wide :
       placed = λ h. absurd (unset h);
     }
 
-    body_grow : le i j → (q : Q) → Sub (body i (Levels (body i) m) q).derives (body j (Levels (body j) n) q).derives
+    body_grow : le i j → (q : Q) → Sub (body i (Levels kind s.first (body i) m) q).derives (body j (Levels kind s.first (body j) n) q).derives
     body_grow l q = (full false false two reads_two (i, zero) (two_staged (i, zero)) q).grows (i, zero) (j, suc zero) (l, omega arith)
 
-  levels_grow : (m n : ℕ) (i j : I) → le i j → m ≤ n → (q : Q) → Sub (Levels (body i) m q).derives (Levels (body j) n q).derives
+  levels_grow : (m n : ℕ) (i j : I) → le i j → m ≤ n → (q : Q) → Sub (Levels kind s.first (body i) m q).derives (Levels kind s.first (body j) n q).derives
   unfolding Levels
   levels_grow zero n i j l h q u x e = absurd e
   levels_grow (suc m) zero i j l h q u x e = absurd (omega (arith, h))
@@ -127,8 +127,8 @@ module _ {I T Q A : Type 0} (kind : T → ℕ) (le : I → I → Type 0) (wide :
   level_exact : (q : Q) (j : I × ℕ) → Exact kind s (derives_level q j) (reads_level q j)
   level_exact q j = (core j.1 j q).exact j
 
-  level_reached : (q : Q) (j : I × ℕ) → Reached (at_level q j) (reads_level q j)
-  level_reached q j = (core j.1 j q).reached j
+  level_passed : (q : Q) (j : I × ℕ) → Passed kind s (at_level q j) (reads_level q j)
+  level_passed q j = (core j.1 j q).passed j
 
   level_tame : (q : Q) (j : I × ℕ) → Tame kind s (reads_level q j)
   level_tame q j = (core j.1 j q).tame j
@@ -144,7 +144,7 @@ module _ {I T Q A : Type 0} (kind : T → ℕ) (le : I → I → Type 0) (wide :
   placeless : (j : I × ℕ) (q : Q) → Staged kind (Deeper le) true false false s (at_level q) (reads_level q) j
   placeless j q = record {
     exact = level_exact q;
-    reached = level_reached q;
+    passed = level_passed q;
     grows = level_grows q;
     tame = level_tame q;
     begins = λ _. level_some q;
@@ -243,7 +243,7 @@ module _ {I T Q A : Type 0} (kind : T → ℕ) (le : I → I → Type 0) (wide :
   placed_there : (j : I × ℕ) → ((q : Q) → Placed (Deeper le) (derives_level q) (reads_level q) j) → (q : Q) → Staged kind (Deeper le) true true true s (at_level q) (reads_level q) j
   placed_there j e q = record {
     exact = level_exact q;
-    reached = level_reached q;
+    passed = level_passed q;
     grows = level_grows q;
     tame = level_tame q;
     begins = λ _. level_some q;
@@ -254,7 +254,7 @@ module _ {I T Q A : Type 0} (kind : T → ℕ) (le : I → I → Type 0) (wide :
   without_rich : (j : I × ℕ) (q : Q) → Placed (Deeper le) (derives_level q) (reads_level q) j → Staged kind (Deeper le) true false true s (at_level q) (reads_level q) j
   without_rich j q e = record {
     exact = level_exact q;
-    reached = level_reached q;
+    passed = level_passed q;
     grows = level_grows q;
     tame = level_tame q;
     begins = λ _. level_some q;
@@ -268,7 +268,7 @@ module _ {I T Q A : Type 0} (kind : T → ℕ) (le : I → I → Type 0) (wide :
       shift i n q ((full true true (λ k r. at_level r k) (λ k r. reads_level r k) (i, n) (λ r. without_rich (i, n) r (level_placed i n r)) q).placed refl refl)
 
   -- at each limits and number of levels, all stages
-  pub staged_levels : (j : I × ℕ) (q : Q) → Staged kind (Deeper le) true true true s (λ k. Levels (body k.0) k.1 q) (λ k. read_levels kind (read k.0) s.first k.1 q) j
+  pub staged_levels : (j : I × ℕ) (q : Q) → Staged kind (Deeper le) true true true s (λ k. Levels kind s.first (body k.0) k.1 q) (λ k. read_levels kind (read k.0) s.first k.1 q) j
   staged_levels j q = placed_there j (λ r. level_placed j.0 j.1 r) q
 
 -- limits that are chosen by others: wider ones among these are wider, and none is out of their reach
@@ -277,5 +277,5 @@ module _ {I J T A : Type 0} (kind : T → ℕ) (le : I → I → Type 0) (at : J
   pub staged_chosen : (s : Shape) (L : I → Limited T A) (a : I → List T → Reading T A) (j : J) → Staged kind le true true true s L a (chosen j) →
       Staged kind at true true true s (λ k. L (chosen k)) (λ k. a (chosen k)) j
   staged_chosen s L a j e =
-      staged kind at true true true s (λ k. L (chosen k)) (λ k. a (chosen k)) j (λ k. e.reached (chosen k))
+      staged kind at true true true s (λ k. L (chosen k)) (λ k. a (chosen k)) j (λ k. e.passed (chosen k))
       (full_chosen kind le at wide chosen keeps reach s (λ i. (L i).derives) a j (whole kind le s L a (chosen j) e))

@@ -11,7 +11,7 @@ pub mod Grow
 pub mod TameRich
 pub mod Places
 pub mod LoopPlaces
-pub mod Reached
+pub mod Passed
 pub mod Full
 pub mod Staged
 pub mod Deep

@@ -122,11 +122,11 @@ module _ {T : Type 0} (kind : T → ℕ) where
   clear_after true js ks r c = clear_left kind js ks r c
   clear_after false js ks r c = c
 
-  first_there : (z : Bool) (js ks : List ℕ) (k : ℕ) → has js k ≡ true → has (cond z (js ++ ks) js) k ≡ true
+  pub first_there : (z : Bool) (js ks : List ℕ) (k : ℕ) → has js k ≡ true → has (cond z (js ++ ks) js) k ≡ true
   first_there true js ks k h = has_left js ks k h
   first_there false js ks k h = h
 
-  first_behind : (z : Bool) (js ks : List ℕ) (k : ℕ) → z ≡ true → has ks k ≡ true → has (cond z (js ++ ks) js) k ≡ true
+  pub first_behind : (z : Bool) (js ks : List ℕ) (k : ℕ) → z ≡ true → has ks k ≡ true → has (cond z (js ++ ks) js) k ≡ true
   first_behind true js ks k e h = has_right js ks k h
   first_behind false js ks k e h = absurd (true_not_false _ e refl)
 

@@ -20,7 +20,8 @@ use Rattle.lrc_reader.specs.Lexeme.{kind, number, word_of, path_of}
 use Rattle.lrc_reader.specs.declared.fault.Limit as what
 use Rattle.lrc_reader.specs.Limits.{passing}
 use Rattle.lrc_reader.specs.Grammar as g
-use Rattle.lrc_reader.specs.Reading.{Reader, pass, constant, only, words, paths, literals, directions, kinds, times, plus, comparisons, atoms, exprs, declarations, others, items, pieces, terms, edits, read_room, read_word, read_path, read_named_kind, read_kind, read_direction, read_attr, read_kid}
+use Rattle.lrc_reader.specs.First.{only, words, paths, literals, directions, kinds, times, plus, comparisons, atoms, exprs, declarations, others, items, pieces, terms, edits}
+use Rattle.lrc_reader.specs.Reading.{Reader, pass, constant, read_room, read_word, read_path, read_named_kind, read_kind, read_direction, read_attr, read_kid}
 use Rattle.lrc_reader.proofs.Next.{room_and}
 use Rattle.lrc_reader.proofs.Tables.{Tells, among, has_value, tells_word, tells_path, tells_literal}
 
@@ -48,13 +49,13 @@ one {le = le} {o = o} {r = r} {p = p} {i = i} w ks value tells t h = staged_one 
 -- where there is room for it
 pub roomy : {I A : Type 0} {le : I → I → Type 0} {o r p : Bool} {s : Shape} {L : I → Limited Lexeme A} {a : I → Reader A} {i : I} (w : Widening le) (count : ℕ) (n : I → ℕ) (what : what.Limit) →
     Limit le n → s.empty ≡ false → Staged kind le o true p s L a i →
-    Staged kind le o r p s (λ j. Within (ltb count (n j)) (passing what) (L j)) (λ j u. on_took (read_room count (n j) s.first what u) (λ _. a j)) i
+    Staged kind le o r p s (λ j. Within kind (ltb count (n j)) s.first (passing what) (L j)) (λ j u. on_took (read_room count (n j) s.first what u) (λ _. a j)) i
 unfolding read_room
 roomy {le = le} {o = o} {r = r} {p = p} {s = s} {L = L} {a = a} {i = i} w count n what lim z e =
-    staged_as kind le w o r p s (λ j. Within (ltb count (n j)) (passing what) (L j)) (λ j. Within (ltb count (n j)) (passing what) (L j)) (λ j. read_within kind (ltb count (n j)) s.first (passing what) (a j))
+    staged_as kind le w o r p s (λ j. Within kind (ltb count (n j)) s.first (passing what) (L j)) (λ j. Within kind (ltb count (n j)) s.first (passing what) (L j)) (λ j. read_within kind (ltb count (n j)) s.first (passing what) (a j))
     (λ j u. on_took (read_room count (n j) s.first what u) (λ _. a j)) i
     (staged_within kind le w o r p (λ j. ltb count (n j)) s (passing what) L a (λ h. cc) (room_keeps kind le w n lim count) (room_somewhere kind le w n lim count) z i e)
-    (λ j u x d. d) (λ j u x d. d) (λ j c u d. d) (λ j u. room_and (ltb count (n j)) s.first (passing what) (a j) u)
+    (λ j u x d. d) (λ j u x d. d) (λ j c u t d. d) (λ j c u t d. d) (λ j u. room_and (ltb count (n j)) s.first (passing what) (a j) u)
 
 -- what begins with one of these, and ends by itself
 abbrev pub begins : List ℕ → Shape

@@ -18,7 +18,8 @@ use Rattle.lrc_reader.specs.Lexeme.{kind, number}
 use Rattle.lrc_reader.specs.Limits.{node_limit, level_limit, passing}
 use Rattle.lrc_reader.specs.Grammar as g
 use Rattle.lrc_reader.specs.Grammar.{Name, Counted, literal_expr, times_of, plus_of, comparison_of}
-use Rattle.lrc_reader.specs.Reading.{Reader, pass, only, words, literals, times, plus, comparisons, atoms, exprs, read_node, read_literal, read_name, read_if_mark, read_times, read_plus, read_comparison, read_two, read_brackets, read_push_argument, read_argument, read_more_arguments, read_arguments, read_any_arguments, read_make, read_named, read_atom, read_factor, read_factors, read_product, read_addend, read_addends, read_sum, read_compared, read_compare, read_if, read_expr_over, read_expr_at, read_expr}
+use Rattle.lrc_reader.specs.First.{only, words, literals, times, plus, comparisons, atoms, exprs}
+use Rattle.lrc_reader.specs.Reading.{Reader, pass, read_node, read_literal, read_name, read_if_mark, read_times, read_plus, read_comparison, read_two, read_brackets, read_push_argument, read_argument, read_more_arguments, read_arguments, read_any_arguments, read_make, read_named, read_atom, read_factor, read_factors, read_product, read_addend, read_addends, read_sum, read_compared, read_compare, read_if, read_expr_over, read_expr_at, read_expr}
 use Rattle.lrc_reader.proofs.Tables.{tells_literal, tells_times, tells_plus, tells_comparison}
 use Rattle.lrc_reader.proofs.Exactly.{then, end, either, one, roomy, begins, mark, word}
 
@@ -46,7 +47,7 @@ node_room = record {
 }
 
 node : {A : Type 0} {o r p : Bool} {s : Shape} {L : Limited Lexeme A} {a : Reader A} {j : Room} (n : ℕ) → s.empty ≡ false → Staged kind roomier o true p s (λ _. L) (λ _. a) j →
-    Staged kind roomier o r p s (λ k. g.IsNode k.0 n L) (λ k. read_node k.0 n s.first a) j
+    Staged kind roomier o r p s (λ k. g.IsNode k.0 n s.first L) (λ k. read_node k.0 n s.first a) j
 node n z e = roomy wide n (λ k. node_limit k.0) Nodes node_room z e
 
 -- the shape of an expression
@@ -75,7 +76,7 @@ literal : {o r p : Bool} {j : Room} (n : ℕ) → Staged kind roomier o r p (beg
 unfolding read_literal
 literal n = then wide (node n refl (one wide literals literal_expr (tells_literal e.Int e.Bool e.Name) (l.Natural (pos 0)) refl)) (λ x. end wide _) refl
 
-a_name : {o r p : Bool} {j : Room} (n : ℕ) → Staged kind roomier o r p (begins words) (λ k. g.IsNode k.0 n g.IsWord) (λ k. read_name k.0 n) j
+a_name : {o r p : Bool} {j : Room} (n : ℕ) → Staged kind roomier o r p (begins words) (λ k. g.IsNode k.0 n words g.IsWord) (λ k. read_name k.0 n) j
 unfolding read_name
 a_name n = node n refl (word wide)
 
@@ -117,31 +118,31 @@ module _ (N : Room → ℕ → Limited Lexeme Counted) (a : Room → ℕ → Rea
   unfolding read_atom
   atom n = either wide (literal n) (either wide (brackets n) (named n) refl refl) refl refl
 
-  pub factor : {r : Bool} (x : Counted) → Staged kind roomier o r p (behind times atom_shape) (λ k. g.IsStep k.0 times_of (g.IsAtom k.0 (N k)) x) (λ k. read_factor k.0 (a k) x) j
+  pub factor : {r : Bool} (x : Counted) → Staged kind roomier o r p (behind times atom_shape) (λ k. g.IsStep k.0 times times_of (g.IsAtom k.0 (N k)) x) (λ k. read_factor k.0 (a k) x) j
   unfolding read_factor read_times
   factor x = then wide (node x.1 refl (one wide times times_of tells_times (l.Mark m.Star) refl)) (λ o. then wide (atom (x.1 + 1)) (λ y. end wide _) refl) refl
 
-  factors : {r : Bool} (x : Counted) → Staged kind roomier o r p (shape_many (behind times atom_shape)) (λ k. Loop (g.IsStep k.0 times_of (g.IsAtom k.0 (N k))) x) (λ k. read_factors k.0 (a k) x) j
+  factors : {r : Bool} (x : Counted) → Staged kind roomier o r p (shape_many (behind times atom_shape)) (λ k. Loop (g.IsStep k.0 times times_of (g.IsAtom k.0 (N k))) x) (λ k. read_factors k.0 (a k) x) j
   unfolding read_factors
-  factors {r} x = staged_loop kind roomier wide o r p (behind times atom_shape) (λ z k. g.IsStep k.0 times_of (g.IsAtom k.0 (N k)) z) (λ z k. read_factor k.0 (a k) z) refl refl j factor x
+  factors {r} x = staged_loop kind roomier wide o r p (behind times atom_shape) (λ z k. g.IsStep k.0 times times_of (g.IsAtom k.0 (N k)) z) (λ z k. read_factor k.0 (a k) z) refl refl j factor x
 
   product : {r : Bool} (n : ℕ) → Staged kind roomier o r p product_shape (λ k. g.IsProduct k.0 (N k) n) (λ k. read_product k.0 (a k) n) j
   unfolding read_product
   product n = then wide (atom n) (λ x. factors x) refl
 
-  pub addend : {r : Bool} (x : Counted) → Staged kind roomier o r p (behind plus product_shape) (λ k. g.IsStep k.0 plus_of (g.IsProduct k.0 (N k)) x) (λ k. read_addend k.0 (a k) x) j
+  pub addend : {r : Bool} (x : Counted) → Staged kind roomier o r p (behind plus product_shape) (λ k. g.IsStep k.0 plus plus_of (g.IsProduct k.0 (N k)) x) (λ k. read_addend k.0 (a k) x) j
   unfolding read_addend read_plus
   addend x = then wide (node x.1 refl (one wide plus plus_of tells_plus (l.Mark m.Plus) refl)) (λ o. then wide (product (x.1 + 1)) (λ y. end wide _) refl) refl
 
-  addends : {r : Bool} (x : Counted) → Staged kind roomier o r p (shape_many (behind plus product_shape)) (λ k. Loop (g.IsStep k.0 plus_of (g.IsProduct k.0 (N k))) x) (λ k. read_addends k.0 (a k) x) j
+  addends : {r : Bool} (x : Counted) → Staged kind roomier o r p (shape_many (behind plus product_shape)) (λ k. Loop (g.IsStep k.0 plus plus_of (g.IsProduct k.0 (N k))) x) (λ k. read_addends k.0 (a k) x) j
   unfolding read_addends
-  addends {r} x = staged_loop kind roomier wide o r p (behind plus product_shape) (λ z k. g.IsStep k.0 plus_of (g.IsProduct k.0 (N k)) z) (λ z k. read_addend k.0 (a k) z) refl refl j addend x
+  addends {r} x = staged_loop kind roomier wide o r p (behind plus product_shape) (λ z k. g.IsStep k.0 plus plus_of (g.IsProduct k.0 (N k)) z) (λ z k. read_addend k.0 (a k) z) refl refl j addend x
 
   sum : {r : Bool} (n : ℕ) → Staged kind roomier o r p sum_shape (λ k. g.IsSum k.0 (N k) n) (λ k. read_sum k.0 (a k) n) j
   unfolding read_sum
   sum n = then wide (product n) (λ x. addends x) refl
 
-  compared : {r : Bool} (x : Counted) → Staged kind roomier o r p (behind comparisons sum_shape) (λ k. g.IsStep k.0 comparison_of (g.IsSum k.0 (N k)) x) (λ k. read_compared k.0 (a k) x) j
+  compared : {r : Bool} (x : Counted) → Staged kind roomier o r p (behind comparisons sum_shape) (λ k. g.IsStep k.0 comparisons comparison_of (g.IsSum k.0 (N k)) x) (λ k. read_compared k.0 (a k) x) j
   unfolding read_compared read_comparison
   compared x = then wide (node x.1 refl (one wide comparisons comparison_of tells_comparison (l.Mark m.Less) refl)) (λ o. then wide (sum (x.1 + 1)) (λ y. end wide _) refl) refl
 
@@ -159,7 +160,7 @@ module _ (N : Room → ℕ → Limited Lexeme Counted) (a : Room → ℕ → Rea
   expr_over {r} n = staged_more kind roomier o r p expr_shape.more _ _ _ j refl (either wide (conditional n) (compare n) refl refl)
 
 -- the least expression is a literal
-a_literal : (n : ℕ) → (i : ℕ) × (u : List Lexeme) × (x : Counted) × (g.IsExprOver i (λ _. Beyond nested) n).derives u x
+a_literal : (n : ℕ) → (i : ℕ) × (u : List Lexeme) × (x : Counted) × (g.IsExprOver i (λ _. Beyond kind exprs nested) n).derives u x
 a_literal n =
     let u : List Lexeme = l.Natural (pos 0) ∷ [] in
     let x : Counted = (e.Int (pos 0), n + 1) in
@@ -167,7 +168,7 @@ a_literal n =
     (n, u, x, inr (u, [], x, refl, (u, [], x, refl, (u, [], x, refl, inl (u, [], e.Int (pos 0), refl, (room, (l.Natural (pos 0), refl, refl)), (refl, refl)), (0, (refl, refl))), (0, (refl, refl))), inr (refl, refl)))
 
 -- an expression behind so many nodes
-pub expr_at : (j : Room) (n : ℕ) → Staged kind roomier true true true expr_shape (λ k. Levels (g.IsExprOver k.0) k.1 n) (λ k. read_expr_at k.0 k.1 n) j
+pub expr_at : (j : Room) (n : ℕ) → Staged kind roomier true true true expr_shape (λ k. Levels kind exprs (g.IsExprOver k.0) k.1 n) (λ k. read_expr_at k.0 k.1 n) j
 unfolding read_expr_at
 expr_at j n =
     staged_levels kind slacker slack_wide expr_shape refl (λ i. g.IsExprOver i) (λ i. read_expr_over i) a_literal (λ o p N a i inner q. expr_over N a inner {r = true} q) j n
@@ -186,6 +187,6 @@ pub expr : {o r p : Bool} {i : ℕ} → Staged kind slacker o r p expr_shape (λ
 unfolding read_expr
 expr {o} {r} {p} {i} =
     then slack_wide
-    (stages kind slacker o r p expr_shape (λ j. Levels (g.IsExprOver j) (level_limit j) 0) (λ j. read_expr_at j (level_limit j) 0) i
-    (staged_chosen kind roomier slacker chosen chosen_keeps chosen_reach wide expr_shape (λ k. Levels (g.IsExprOver k.0) k.1 0) (λ k. read_expr_at k.0 k.1 0) i (expr_at (chosen i) 0)))
+    (stages kind slacker o r p expr_shape (λ j. Levels kind exprs (g.IsExprOver j) (level_limit j) 0) (λ j. read_expr_at j (level_limit j) 0) i
+    (staged_chosen kind roomier slacker chosen chosen_keeps chosen_reach wide expr_shape (λ k. Levels kind exprs (g.IsExprOver k.0) k.1 0) (λ k. read_expr_at k.0 k.1 0) i (expr_at (chosen i) 0)))
     (λ x. end slack_wide _) refl

@@ -11,7 +11,7 @@ use Rattle.lrc_parse.proofs.Sets.{true_not_false}
 use Rattle.lrc_parse.proofs.Parts.{exact_one}
 use Rattle.lrc_parse.proofs.TameRich.{tame_one}
 use Rattle.lrc_parse.proofs.Places.{placed_one}
-use Rattle.lrc_parse.proofs.Reached.{reached_one}
+use Rattle.lrc_parse.proofs.Passed.{passed_one}
 use Rattle.lrc_parse.proofs.Staged.{Staged, staged_as, staged_within, staged_loop, staged_optional, staged_many, staged_most, staged_separated, staged_separated_most, room_keeps, room_somewhere, stages}
 use Rattle.lrc_parse.proofs.Levels.{staged_levels, staged_chosen}
 use Rattle.lrc_reader.specs.declared.lexeme.Lexeme.{Lexeme}
@@ -22,7 +22,8 @@ use Rattle.lrc_reader.specs.Lexeme.{kind, number}
 use Rattle.lrc_reader.specs.Limits.{sort_limit, attribute_limit, production_limit, child_limit, local_limit, session_limit, edit_limit, level_limit, passing}
 use Rattle.lrc_reader.specs.Grammar as g
 use Rattle.lrc_reader.specs.Grammar.{Name, Items, literal_term, one_of, piece_of, count_of}
-use Rattle.lrc_reader.specs.Reading.{Reader, only, words, naturals, literals, directions, declarations, others, items, pieces, terms, edits, read_kid, read_push_kid, read_more_kids, read_some_kids, read_any_kids, read_kids, read_attr, read_attrs, read_sort, read_local, read_attach, read_declared, read_piece, read_pieces, read_pattern, read_dot_word, read_attribute_of, read_equation, read_undeclared, read_declaration, read_other, read_another_item, read_more_items, read_items, read_prod, read_leaf, read_push_term, read_some_terms, read_more_terms, read_any_terms, read_tree, read_term_over, read_term_at, read_term, read_one_number, read_start, read_sorts, read_prods, read_grammar, read_put, read_copy, read_show, read_count, read_forget, read_edit, read_edits, read_session, read_sessions, read_all}
+use Rattle.lrc_reader.specs.First.{only, words, naturals, literals, directions, declarations, others, items, pieces, terms, edits}
+use Rattle.lrc_reader.specs.Reading.{Reader, read_kid, read_push_kid, read_more_kids, read_some_kids, read_any_kids, read_kids, read_attr, read_attrs, read_sort, read_local, read_attach, read_declared, read_piece, read_pieces, read_pattern, read_dot_word, read_attribute_of, read_equation, read_undeclared, read_declaration, read_other, read_another_item, read_more_items, read_items, read_prod, read_leaf, read_push_term, read_some_terms, read_more_terms, read_any_terms, read_tree, read_term_over, read_term_at, read_term, read_one_number, read_start, read_sorts, read_prods, read_grammar, read_put, read_copy, read_show, read_count, read_forget, read_edit, read_edits, read_session, read_sessions, read_all}
 use Rattle.lrc_reader.proofs.Tables.{tells_literal, tells_piece, tells_count, among}
 use Rattle.lrc_reader.proofs.Turns.{separated_is, separated_most_is}
 use Rattle.lrc_reader.proofs.Exactly.{then, end, either, one, roomy, begins, mark, word, path, a_kind, attr, kid}
@@ -30,16 +31,13 @@ use Rattle.lrc_reader.proofs.Expressions.{slacker, slack_wide, Room, roomier, wi
 
 -- ---- terms
 
-
-
-
 module _ (N : Room → Unit {0} → Limited Lexeme RawTerm) (a : Room → Unit {0} → Reader RawTerm) {o p : Bool} {j : Room} (inner : (q : Unit {0}) → Staged kind roomier o false p (begins terms) (λ k. N k q) (λ k. a k q) j) where
   some_terms : Staged kind roomier o false p (shape_then (begins terms) (shape_many (shape_skip (number m.Comma) (begins terms)))) (λ k. Separated kind (number m.Comma) (N k tt)) (λ k. read_some_terms (a k tt)) j
   unfolding read_some_terms read_push_term read_more_terms
   some_terms =
       staged_as kind roomier wide o false p _ (λ k. Separated kind (number m.Comma) (N k tt)) (λ k. Separated kind (number m.Comma) (N k tt)) (λ k. read_separated kind (number m.Comma) (a k tt)) (λ k. read_some_terms (a k tt)) j
       (staged_separated kind roomier wide o false p (number m.Comma) (l.Mark m.Comma) refl (begins terms) (λ k. N k tt) (λ k. a k tt) refl j (inner tt))
-      (λ k u x d. d) (λ k u x d. d) (λ k c u d. d) (λ k u. sym (separated_is (number m.Comma) (a k tt) u))
+      (λ k u x d. d) (λ k u x d. d) (λ k c u t d. d) (λ k c u t d. d) (λ k u. sym (separated_is (number m.Comma) (a k tt) u))
 
   tree : {r : Bool} → Staged kind roomier o r p (begins words) (λ k. g.IsTree (N k tt)) (λ k. read_tree (a k tt)) j
   unfolding read_tree read_any_terms
@@ -50,10 +48,10 @@ module _ (N : Room → Unit {0} → Limited Lexeme RawTerm) (a : Room → Unit {
   unfolding read_term_over read_leaf
   term_over q = either wide (one wide literals literal_term (tells_literal t.Int t.Bool t.Name) (l.Natural (pos 0)) refl) tree refl refl
 
-a_leaf : (q : Unit {0}) → (i : ℕ) × (u : List Lexeme) × (x : RawTerm) × (g.IsTermOver (λ _. Beyond nested) q).derives u x
+a_leaf : (q : Unit {0}) → (i : ℕ) × (u : List Lexeme) × (x : RawTerm) × (g.IsTermOver (λ _. Beyond kind terms nested) q).derives u x
 a_leaf q = (0, l.Natural (pos 0) ∷ [], t.Int (pos 0), inl (l.Natural (pos 0), refl, refl))
 
-pub term_at : (j : Room) → Staged kind roomier true true true (begins terms) (λ k. Levels g.IsTermOver k.1 tt) (λ k. read_term_at k.1) j
+pub term_at : (j : Room) → Staged kind roomier true true true (begins terms) (λ k. Levels kind terms g.IsTermOver k.1 tt) (λ k. read_term_at k.1) j
 unfolding read_term_at
 term_at j = staged_levels kind slacker slack_wide (begins terms) refl (λ _. g.IsTermOver) (λ _. read_term_over) a_leaf (λ o p N a i inner q. term_over N a inner {r = true} q) j tt
 
@@ -61,7 +59,7 @@ pub term : {o r p : Bool} {i : ℕ} → Staged kind slacker o r p (begins terms)
 unfolding read_term
 term {o} {r} {p} {i} =
     stages kind slacker o r p (begins terms) (λ j. g.IsTerm j) (λ j. read_term_at (level_limit j)) i
-    (staged_chosen kind roomier slacker chosen chosen_keeps chosen_reach wide (begins terms) (λ k. Levels g.IsTermOver k.1 tt) (λ k. read_term_at k.1) i (term_at (chosen i)))
+    (staged_chosen kind roomier slacker chosen chosen_keeps chosen_reach wide (begins terms) (λ k. Levels kind terms g.IsTermOver k.1 tt) (λ k. read_term_at k.1) i (term_at (chosen i)))
 
 -- ---- limits that are a number and the slack
 
@@ -69,12 +67,12 @@ a_limit : (n : ℕ) → Limit slacker (λ j. n + j)
 a_limit n = record { keeps = λ i j h. omega (arith, h); any = λ m. (m + 1, omega arith) }
 
 most : {A : Type 0} {o r p : Bool} {s : Shape} {L : ℕ → Limited Lexeme A} {a : ℕ → Reader A} {i : ℕ} (n : ℕ) (c : Cause) → (c ≡ expected → ⊥) → s.empty ≡ false → disjoint s.more s.first ≡ true →
-    Staged kind slacker o true p s L a i → Staged kind slacker o r p (shape_many s) (λ j. Most (n + j) c (L j)) (λ j. read_most kind (n + j) s.first c (a j) []) i
+    Staged kind slacker o true p s L a i → Staged kind slacker o r p (shape_many s) (λ j. Most kind (n + j) s.first c (L j)) (λ j. read_most kind (n + j) s.first c (a j) []) i
 most {o = o} {r = r} {p = p} {s = s} {L = L} {a = a} {i = i} n c ne z d e = staged_most kind slacker slack_wide o r p (λ j. n + j) (a_limit n) s c ne L a z d i e
 
 -- ---- sorts
 
-attrs : {o r p : Bool} {i : ℕ} → Staged kind slacker o r p (shape_many (begins directions)) (λ j. Most (attribute_limit j) (passing Attributes) g.IsAttr) (λ j. read_attrs j []) i
+attrs : {o r p : Bool} {i : ℕ} → Staged kind slacker o r p (shape_many (begins directions)) (λ j. Most kind (attribute_limit j) directions (passing Attributes) g.IsAttr) (λ j. read_attrs j []) i
 unfolding read_attrs
 attrs = most 16 (passing Attributes) (λ e. cc) refl refl (attr slack_wide)
 
@@ -84,13 +82,13 @@ sort = then slack_wide (mark slack_wide m.Sort) (λ _. then slack_wide (word sla
 
 -- ---- children
 
-some_kids : {o r p : Bool} {i : ℕ} → Staged kind slacker o r p (shape_then (begins words) (shape_many (shape_skip (number m.Comma) (begins words)))) (λ j. SeparatedMost kind (number m.Comma) (child_limit j) (passing Children) g.IsKid) (λ j. read_some_kids j) i
+some_kids : {o r p : Bool} {i : ℕ} → Staged kind slacker o r p (shape_then (begins words) (shape_many (shape_skip (number m.Comma) (begins words)))) (λ j. SeparatedMost kind (number m.Comma) (child_limit j) words (passing Children) g.IsKid) (λ j. read_some_kids j) i
 unfolding read_some_kids read_push_kid read_more_kids
 some_kids {o} {r} {p} {i} =
-    staged_as kind slacker slack_wide o r p _ (λ j. SeparatedMost kind (number m.Comma) (child_limit j) (passing Children) g.IsKid) (λ j. SeparatedMost kind (number m.Comma) (child_limit j) (passing Children) g.IsKid)
+    staged_as kind slacker slack_wide o r p _ (λ j. SeparatedMost kind (number m.Comma) (child_limit j) words (passing Children) g.IsKid) (λ j. SeparatedMost kind (number m.Comma) (child_limit j) words (passing Children) g.IsKid)
     (λ j. read_separated_most kind (number m.Comma) (child_limit j) words (passing Children) read_kid) (λ j. read_some_kids j) i
     (staged_separated_most kind slacker slack_wide o r p (number m.Comma) (l.Mark m.Comma) refl (λ j. child_limit j) (a_limit 8) (λ j. omega arith) (begins words) (passing Children) (λ e. cc) (λ _. g.IsKid) (λ _. read_kid) refl refl i (kid slack_wide))
-    (λ k u x d. d) (λ k u x d. d) (λ k c u d. d) (λ j u. sym (separated_most_is (number m.Comma) read_kid (child_limit j) words (passing Children) u))
+    (λ k u x d. d) (λ k u x d. d) (λ k c u t d. d) (λ k c u t d. d) (λ j u. sym (separated_most_is (number m.Comma) read_kid (child_limit j) words (passing Children) u))
 
 kids : {o r p : Bool} {i : ℕ} → Staged kind slacker o r p (begins (only m.LeftParen)) (λ j. g.IsKids j) (λ j. read_kids j) i
 unfolding read_kids read_any_kids
@@ -178,11 +176,11 @@ start : {o r p : Bool} {i : ℕ} → Staged kind slacker o r p (begins (only m.S
 unfolding read_start
 start = then slack_wide (mark slack_wide m.Start) (λ _. then slack_wide (word slack_wide) (λ name. then slack_wide (mark slack_wide m.Semicolon) (λ _. end slack_wide _) refl) refl) refl
 
-sorts : {o r p : Bool} {i : ℕ} → Staged kind slacker o r p (shape_many (begins (only m.Sort))) (λ j. Most (sort_limit j) (passing Sorts) (g.IsSort j)) (λ j. read_sorts j []) i
+sorts : {o r p : Bool} {i : ℕ} → Staged kind slacker o r p (shape_many (begins (only m.Sort))) (λ j. Most kind (sort_limit j) (only m.Sort) (passing Sorts) (g.IsSort j)) (λ j. read_sorts j []) i
 unfolding read_sorts
 sorts = most 64 (passing Sorts) (λ e. cc) refl refl sort
 
-prods : {o r p : Bool} {i : ℕ} → Staged kind slacker o r p (shape_many (begins (only m.Prod))) (λ j. Most (production_limit j) (passing Productions) (g.IsProd j)) (λ j. read_prods j []) i
+prods : {o r p : Bool} {i : ℕ} → Staged kind slacker o r p (shape_many (begins (only m.Prod))) (λ j. Most kind (production_limit j) (only m.Prod) (passing Productions) (g.IsProd j)) (λ j. read_prods j []) i
 unfolding read_prods
 prods = most 256 (passing Productions) (λ e. cc) refl refl prod
 
@@ -216,7 +214,7 @@ pub an_edit : {o r p : Bool} {i : ℕ} → Staged kind slacker o r p (begins edi
 unfolding read_edit
 an_edit = either slack_wide put (either slack_wide copy (either slack_wide show forget refl refl) refl refl) refl refl
 
-all_edits : {o r p : Bool} {i : ℕ} → Staged kind slacker o r p (shape_many (begins edits)) (λ j. Most (edit_limit j) (passing Edits) (g.IsEdit j)) (λ j. read_edits j []) i
+all_edits : {o r p : Bool} {i : ℕ} → Staged kind slacker o r p (shape_many (begins edits)) (λ j. Most kind (edit_limit j) edits (passing Edits) (g.IsEdit j)) (λ j. read_edits j []) i
 unfolding read_edits
 all_edits = most 10000 (passing Edits) (λ e. cc) refl refl an_edit
 
@@ -226,7 +224,7 @@ session =
     then slack_wide (mark slack_wide m.Session) (λ _. then slack_wide (mark slack_wide m.On) (λ _. then slack_wide term (λ tree. then slack_wide (mark slack_wide m.LeftBrace) (λ _.
     then slack_wide all_edits (λ xs. then slack_wide (mark slack_wide m.RightBrace) (λ _. end slack_wide _) refl) refl) refl) refl) refl) refl
 
-sessions : {o r p : Bool} {i : ℕ} → Staged kind slacker o r p (shape_many (begins (only m.Session))) (λ j. Most (session_limit j) (passing Sessions) (g.IsSession j)) (λ j. read_sessions j []) i
+sessions : {o r p : Bool} {i : ℕ} → Staged kind slacker o r p (shape_many (begins (only m.Session))) (λ j. Most kind (session_limit j) (only m.Session) (passing Sessions) (g.IsSession j)) (λ j. read_sessions j []) i
 unfolding read_sessions
 sessions = most 64 (passing Sessions) (λ e. cc) refl refl session
 
@@ -247,7 +245,7 @@ one_number : {o p : Bool} {i : ℕ} → Staged kind slacker o false p (begins na
 unfolding read_one_number
 one_number {o} {p} {i} = record {
   exact = λ _. exact_one kind naturals one_of one_among;
-  reached = λ _. reached_one one_of;
+  passed = λ _. passed_one kind naturals one_of;
   grows = λ j k h u x d. d;
   tame = λ _. tame_one kind naturals one_of one_among;
   begins = λ _. (0, l.Natural (pos 1) ∷ [], tt, (l.Natural (pos 1), refl, refl));

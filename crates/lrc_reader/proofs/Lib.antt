@@ -7,3 +7,4 @@ pub mod Jobs
 pub mod Shorter
 pub mod Verdict
 pub mod Limits
+pub mod Laws

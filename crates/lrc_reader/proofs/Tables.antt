@@ -6,7 +6,8 @@ use Rattle.lrc_reader.specs.declared.lexeme.Lexeme.TheVariants as l
 use Rattle.lrc_reader.specs.declared.lexeme.Mark.TheVariants as m
 use Rattle.lrc_reader.specs.Lexeme.{kind, word_of, path_of}
 use Rattle.lrc_reader.specs.Grammar.{Name, literal, times_of, plus_of, comparison_of, piece_of, count_of}
-use Rattle.lrc_reader.specs.Reading.{words, naturals, paths, literals, times, plus, comparisons, pieces}
+use Rattle.lrc_reader.specs.First.{words, naturals, paths, literals, times, plus, comparisons, pieces}
+use Rattle.lrc_reader.specs.Reading.{}
 
 -- a table that has a value for just the lexemes of some kinds
 abbrev pub Tells : {A : Type 0} → List ℕ → (Lexeme → Option A) → Type 0
@@ -24,7 +25,6 @@ has_value {A} ks value tells t h = go (value t) (tells t ∙ h)
       where
         no_value : false ≡ true → ⊥
         no_value h = cc
-
 
 pub tells_word : Tells words word_of
 tells_word (l.Word name) = refl

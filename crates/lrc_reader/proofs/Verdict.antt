@@ -1,5 +1,5 @@
 -- What reading all lexemes says of a text: its job, or its first fault.
-use Rattle.std.proofs.Common.{◌≡◌, ◌≢◌, true, ℕ, suc, zero, ◌+◌, ◌-◌, ◌<◌, ◌≤◌, List, [], ◌∷◌, ◌++◌, length, map, drop, refl, sym, ap, ◌∙◌, subst, arith, length-append}
+use Rattle.std.proofs.Common.{◌≡◌, ◌≢◌, true, ℕ, suc, zero, ◌+◌, ◌-◌, ◌<◌, ◌≤◌, List, [], ◌∷◌, ◌++◌, length, map, drop, refl, sym, ap, ◌∙◌, subst, arith, length-append, append_assoc}
 use Rattle.std.proofs.lemmas.List.{append-nil, append_cancel_right}
 use Rattle.lrc_base.specs.declared.job.Job.{Job}
 use Rattle.lrc_lex.specs.declared.Token.{Token}
@@ -10,6 +10,8 @@ use Rattle.lrc_parse.specs.Reading.{Cause, expected, nested, limit, Reading, too
 use Rattle.lrc_parse.specs.Faults.{Full, Begins, Wanting, Passing, Caused}
 use Rattle.lrc_parse.proofs.Staged.{Staged, whole}
 use Rattle.lrc_parse.proofs.Whole.{read_whole, one_value, stops_none, rest_none}
+use Rattle.lrc_parse.proofs.Back.{stops_not_took}
+use Rattle.lrc_parse.proofs.Places.{same_left}
 use Rattle.lrc_parse.proofs.Verdict.{stop_place, left_place}
 use Rattle.lrc_reader.specs.declared.lexeme.Lexeme.{Lexeme}
 use Rattle.lrc_reader.specs.declared.fault.Limit.{Limit}
@@ -23,7 +25,7 @@ use Rattle.lrc_reader.specs.Gives.{cause_of, fault_at}
 use Rattle.lrc_reader.specs.Grammar.{IsJob}
 use Rattle.lrc_reader.specs.Reading.{read_all}
 use Rattle.lrc_reader.specs.Denotes.{Denotes}
-use Rattle.lrc_reader.specs.Faults.{Split, start_of, jobs, IsExpected, IsPassed, FirstTextFault}
+use Rattle.lrc_reader.specs.Faults.{Split, start_of, jobs, Unpassed, IsExpected, PassesNext, IsPassed, FirstTextFault}
 use Rattle.lrc_reader.proofs.Expressions.{slacker, slack_wide}
 use Rattle.lrc_reader.proofs.Jobs.{job_shape, job}
 
@@ -41,30 +43,51 @@ full_job = whole kind slacker job_shape (λ j. IsJob j) (λ j. read_all j) 0 the
 pub one_job_of : (u : List Lexeme) (x y : Job) → jobs 0 u x → jobs 0 u y → x ≡ y
 one_job_of u x y d e = one_value kind _ _ _ exact_job u x y d e
 
-expected_place : (u r : List Lexeme) → read_all 0 u ≡ stops expected r → (p : List Lexeme) × (u ≡ p ++ r) × Wanting jobs p r
-expected_place u r h = stop_place kind slacker slack_wide job_shape jobs read_all 0 full_job expected u r h
+-- the reading stops where the next lexeme passes a limit
+pub passes_stop : (c : Cause) (p r : List Lexeme) → PassesNext c p r → read_all 0 (p ++ r) ≡ stops c r
+passes_stop c p [] h = absurd h
+passes_stop c p (t ∷ r) h = (the_job.passed 0).meets c p t r h
+
+-- before the end of what was read no limit is passed
+unpassed : (u p r : List Lexeme) → u ≡ p ++ r → ((c : Cause) (s : List Lexeme) → read_all 0 u ≡ stops c s → length s ≤ length r) → Unpassed p
+unpassed u p r e far c q o t i h =
+    let f : u ≡ q ++ t ∷ (o ++ r) = e ∙ (ap (λ v. v ++ r) i ∙ append_assoc q (t ∷ o) r) in
+    let g : read_all 0 u ≡ stops c (t ∷ (o ++ r)) = ap (read_all 0) f ∙ (the_job.passed 0).meets c q t (o ++ r) h in
+    let l : length (t ∷ (o ++ r)) ≤ length r = far c (t ∷ (o ++ r)) g in
+    let n : length (o ++ r) ≡ length o + length r = length-append o r in
+    omega (arith, l, n)
+
+stops_far : (u r : List Lexeme) (d : Cause) → read_all 0 u ≡ stops d r → (c : Cause) (s : List Lexeme) → read_all 0 u ≡ stops c s → length s ≤ length r
+stops_far u r d h c s g = let e : length r ≡ length s = ap length (same_left d c r s (sym h ∙ g)) in omega (arith, e)
+
+expected_place : (u r : List Lexeme) → read_all 0 u ≡ stops expected r → (p : List Lexeme) × (u ≡ p ++ r) × Wanting jobs p r × Unpassed p
+expected_place u r h =
+    let v : _ = stop_place kind slacker slack_wide job_shape jobs read_all 0 full_job expected u r h in
+    (v.0, v.1, v.2, unpassed u v.0 r v.1 (stops_far u r expected h))
 
 -- the same tokens before the rest
-same_before : (c : Cause) (u r p q : List Lexeme) → u ≡ p ++ r → u ≡ q ++ r → (IsJob 0).reaches c q → (IsJob 0).reaches c p
-same_before c u r p q e f h = subst (λ v. (IsJob 0).reaches c v) (append_cancel_right q p r (sym f ∙ e)) h
+next_there : (c : Cause) (u r p : List Lexeme) → u ≡ p ++ r → (q : List Lexeme) × (t : Lexeme) × (o : List Lexeme) × (u ≡ q ++ r) × (r ≡ t ∷ o) × (IsJob 0).passes c q t → PassesNext c p r
+next_there c u r p e w =
+    subst (PassesNext c p) (sym w.4) (subst (λ v. (IsJob 0).passes c v w.1) (append_cancel_right w.0 p r (sym w.3 ∙ e)) w.5)
 
-nested_place : (u r : List Lexeme) → read_all 0 u ≡ stops nested r → (p : List Lexeme) × (u ≡ p ++ r) × (IsJob 0).reaches nested p × Passing jobs 0 p r
+nested_place : (u r : List Lexeme) → read_all 0 u ≡ stops nested r → (p : List Lexeme) × (u ≡ p ++ r) × PassesNext nested p r × Passing jobs 0 p r
 nested_place u r h =
     let v : _ = stop_place kind slacker slack_wide job_shape jobs read_all 0 full_job nested u r h in
-    let w : _ = the_job.reached 0 nested u r (λ e. cc) h in
-    (v.0, v.1, same_before nested u r v.0 w.0 v.1 w.1 w.2, v.2)
+    (v.0, v.1, next_there nested u r v.0 v.1 ((the_job.passed 0).reached nested u r (λ e. cc) h), v.2)
 
-limit_place : (n : ℕ) (u r : List Lexeme) → read_all 0 u ≡ stops (limit n) r → (p : List Lexeme) × (u ≡ p ++ r) × (IsJob 0).reaches (limit n) p × Passing jobs 0 p r
+limit_place : (n : ℕ) (u r : List Lexeme) → read_all 0 u ≡ stops (limit n) r → (p : List Lexeme) × (u ≡ p ++ r) × PassesNext (limit n) p r × Passing jobs 0 p r
 limit_place n u r h =
     let v : _ = stop_place kind slacker slack_wide job_shape jobs read_all 0 full_job (limit n) u r h in
-    let w : _ = the_job.reached 0 (limit n) u r (λ e. cc) h in
-    (v.0, v.1, same_before (limit n) u r v.0 w.0 v.1 w.1 w.2, v.2)
+    (v.0, v.1, next_there (limit n) u r v.0 v.1 ((the_job.passed 0).reached (limit n) u r (λ e. cc) h), v.2)
 
-left_over : (u r : List Lexeme) (x : Job) → read_all 0 u ≡ took x r → (length r ≡ 0 → ⊥) → (p : List Lexeme) × (u ≡ p ++ r) × Wanting jobs p r
+never_stops : (u r : List Lexeme) (x : Job) → read_all 0 u ≡ took x r → (n : ℕ) (c : Cause) (s : List Lexeme) → read_all 0 u ≡ stops c s → length s ≤ n
+never_stops u r x h n c s g = absurd (stops_not_took c x s r (sym g ∙ h))
+
+left_over : (u r : List Lexeme) (x : Job) → read_all 0 u ≡ took x r → (length r ≡ 0 → ⊥) → (p : List Lexeme) × (u ≡ p ++ r) × Wanting jobs p r × Unpassed p
 left_over u [] x h n = absurd (n refl)
 left_over u (t ∷ r) x h n =
     let w : _ = left_place kind slacker slack_wide job_shape jobs read_all 0 full_job u r t x h in
-    (w.0, w.1, ((0, [], x, subst (λ v. jobs 0 v x) (sym (append-nil w.0)) w.2), w.3))
+    (w.0, w.1, ((0, [], x, subst (λ v. jobs 0 v x) (sym (append-nil w.0)) w.2), w.3), unpassed u w.0 (t ∷ r) w.1 (never_stops u (t ∷ r) x h (length (t ∷ r))))
 
 -- ---- the tokens of lexemes
 
@@ -79,14 +102,14 @@ parted text (t ∷ found) (x ∷ p) r e =
     let w : _ = parted text found p r tail in
     (t ∷ w.0, w.1, ap (λ v. t ∷ v) w.2, ap (λ v. lexeme_of text t ∷ v) w.3 ∙ ap (λ v. v ∷ p) head, w.4)
 
-drop_front : (before rest : List Token) → drop (length (before ++ rest) - length rest) (before ++ rest) ≡ rest
+pub drop_front : (before rest : List Token) → drop (length (before ++ rest) - length rest) (before ++ rest) ≡ rest
 drop_front [] rest = let e : length rest - length rest ≡ 0 = omega arith in ap (λ n. drop n rest) e
 drop_front (t ∷ before) rest =
     let e : length (before ++ rest) ≡ length before + length rest = length-append before rest in
     let f : length (t ∷ (before ++ rest)) - length rest ≡ suc (length (before ++ rest) - length rest) = omega (arith, e) in
     ap (λ n. drop n (t ∷ (before ++ rest))) f ∙ drop_front before rest
 
-length_lexemes : (text : List ℕ) (found : List Token) → length (lexemes text found) ≡ length found
+pub length_lexemes : (text : List ℕ) (found : List Token) → length (lexemes text found) ≡ length found
 length_lexemes text [] = refl
 length_lexemes text (t ∷ found) = ap suc (length_lexemes text found)
 
@@ -103,17 +126,17 @@ split_at text found p r at left short cut e l here =
     )
 
 expected_at : (text : List ℕ) (found : List Token) (at left : ℕ) (r : List Lexeme) → length text ≤ 16777216 → Tokens text found → left ≡ length r →
-    at ≡ start_of text (drop (length found - left) found) → (p : List Lexeme) × (lexemes text found ≡ p ++ r) × Wanting jobs p r → IsExpected text at
+    at ≡ start_of text (drop (length found - left) found) → (p : List Lexeme) × (lexemes text found ≡ p ++ r) × Wanting jobs p r × Unpassed p → IsExpected text at
 expected_at text found at left r short cut l here v =
     let w : _ = split_at text found v.0 r at left short cut v.1 l here in
-    (w.0, subst (λ q. Wanting jobs (lexemes text w.0.before) q) (sym w.2) (subst (λ q. Wanting jobs q r) (sym w.1) v.2))
+    (w.0, subst (λ q. Wanting jobs (lexemes text w.0.before) q) (sym w.2) (subst (λ q. Wanting jobs q r) (sym w.1) v.2), subst Unpassed (sym w.1) v.3)
 
 passed_at : (text : List ℕ) (found : List Token) (c : Cause) (at left : ℕ) (r : List Lexeme) → length text ≤ 16777216 → Tokens text found → left ≡ length r →
-    at ≡ start_of text (drop (length found - left) found) → (p : List Lexeme) × (lexemes text found ≡ p ++ r) × (IsJob 0).reaches c p × Passing jobs 0 p r → IsPassed text c at
+    at ≡ start_of text (drop (length found - left) found) → (p : List Lexeme) × (lexemes text found ≡ p ++ r) × PassesNext c p r × Passing jobs 0 p r → IsPassed text c at
 passed_at text found c at left r short cut l here v =
     let w : _ = split_at text found v.0 r at left short cut v.1 l here in (
       w.0,
-      subst (λ q. (IsJob 0).reaches c q) (sym w.1) v.2,
+      subst (λ q. PassesNext c (lexemes text w.0.before) q) (sym w.2) (subst (λ q. PassesNext c q r) (sym w.1) v.2),
       subst (λ q. Passing jobs 0 (lexemes text w.0.before) q) (sym w.2) (subst (λ q. Passing jobs 0 q r) (sym w.1) v.3),
     )
 

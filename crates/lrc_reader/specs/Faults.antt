@@ -30,14 +30,24 @@ pub record Split (text : List ℕ) (at : ℕ) : Type 0 where
 abbrev pub jobs : ℕ → Lang Lexeme Job
 jobs slack = (IsJob slack).derives
 
--- A job begins with the tokens before the place, and none with one token more; or the text ends there and is no job.
-abbrev pub IsExpected : List ℕ → ℕ → Type 0
-IsExpected text at = (s : Split text at) × Wanting jobs (lexemes text s.before) (lexemes text s.rest)
+-- no lexeme among these passes a limit
+abbrev pub Unpassed : List Lexeme → Type 0
+Unpassed lexs = (cause : Cause) (p q : List Lexeme) (t : Lexeme) → lexs ≡ p ++ t ∷ q → (IsJob 0).passes cause p t → ⊥
 
--- The tokens before the place reach the limit of the cause; a job begins with one token more, but none within the limits.
+-- A job begins with the tokens before the place, and none with one more; or the text ends there and is no job. None of the
+-- tokens before passes a limit.
+abbrev pub IsExpected : List ℕ → ℕ → Type 0
+IsExpected text at = (s : Split text at) × Wanting jobs (lexemes text s.before) (lexemes text s.rest) × Unpassed (lexemes text s.before)
+
+-- the next lexeme would pass the limit of the cause behind these
+abbrev pub PassesNext : Cause → List Lexeme → List Lexeme → Type 0
+PassesNext cause before [] = ⊥
+PassesNext cause before (t ∷ rest) = (IsJob 0).passes cause before t
+
+-- The token at the place passes the limit of the cause. A job begins with the tokens up to it, but none within the limits.
 abbrev pub IsPassed : List ℕ → Cause → ℕ → Type 0
 IsPassed text cause at =
-    (s : Split text at) × (IsJob 0).reaches cause (lexemes text s.before) × Passing jobs 0 (lexemes text s.before) (lexemes text s.rest)
+    (s : Split text at) × PassesNext cause (lexemes text s.before) (lexemes text s.rest) × Passing jobs 0 (lexemes text s.before) (lexemes text s.rest)
 
 abbrev pub FirstTextFault : List ℕ → JobFault → Type 0
 FirstTextFault text TooLong = 16777216 < length text

@@ -1,4 +1,4 @@
--- The grammar of a job within its limits: which lexemes stand for which job, and behind which lexemes a limit is reached.
+-- The grammar of a job within its limits: which lexemes stand for which job, and which lexeme would pass a limit.
 use Rattle.std.specs.Prelude.{ℕ, zero, suc, ℤ, ◌+◌, nat_lt, pos, Bool, true, false, if◌then◌else◌, unsigned_abs, Option, Some, None, List, [], ◌∷◌, ◌++◌}
 use Rattle.std.specs.Ordering.{int_eq}
 use Rattle.lrc_base.specs.declared.expr.Op.{Op}
@@ -30,6 +30,7 @@ use Rattle.lrc_reader.specs.declared.lexeme.Mark.{Mark}
 use Rattle.lrc_reader.specs.declared.lexeme.Mark.TheVariants as m
 use Rattle.lrc_reader.specs.declared.fault.Limit.TheVariants.{Sorts, Attributes, Productions, Children, Locals, Nodes, Sessions, Edits}
 use Rattle.lrc_reader.specs.Lexeme.{kind, number, word_of, path_of}
+use Rattle.lrc_reader.specs.First.{only, words, literals, directions, times, plus, comparisons, exprs, declarations, terms, edits}
 use Rattle.lrc_reader.specs.Limits.{sort_limit, attribute_limit, production_limit, child_limit, local_limit, node_limit, session_limit, edit_limit, level_limit, passing}
 
 -- ---- one part after another, with its value
@@ -109,7 +110,7 @@ IsSort slack = do
   mark m.Sort
   name ← IsWord
   mark m.LeftBrace
-  attrs ← Most (attribute_limit slack) (passing Attributes) IsAttr
+  attrs ← Most kind (attribute_limit slack) directions (passing Attributes) IsAttr
   mark m.RightBrace
   pure (sort_of name attrs)
 
@@ -130,7 +131,7 @@ IsKid = do
 abbrev pub IsKids : ℕ → Limited Lexeme (List RawKid)
 IsKids slack = do
   mark m.LeftParen
-  kids ← Either (SeparatedMost kind (number m.Comma) (child_limit slack) (passing Children) IsKid) (pure [])
+  kids ← Either (SeparatedMost kind (number m.Comma) (child_limit slack) words (passing Children) IsKid) (pure [])
   mark m.RightParen
   pure kids
 
@@ -157,20 +158,20 @@ comparison_of (l.Mark m.SameAs) = Some op.Equal
 comparison_of (l.Mark m.Less) = Some op.Less
 comparison_of _ = None
 
--- the first lexeme of a node, behind so many nodes
-abbrev pub IsNode : {A : Type 0} → ℕ → ℕ → Limited Lexeme A → Limited Lexeme A
-IsNode slack nodes L = Within (nat_lt nodes (node_limit slack)) (passing Nodes) L
+-- the first lexeme of a node, one of these kinds, behind so many nodes
+abbrev pub IsNode : {A : Type 0} → ℕ → ℕ → List ℕ → Limited Lexeme A → Limited Lexeme A
+IsNode slack nodes first L = Within kind (nat_lt nodes (node_limit slack)) first (passing Nodes) L
 
 -- an operator and the operand to its right, behind the operand to its left
-abbrev pub IsStep : ℕ → (Lexeme → Option Op) → (ℕ → Limited Lexeme Counted) → Counted → Limited Lexeme Counted
-IsStep slack operator Operand x = do
-  o ← IsNode slack x.1 (One operator)
+abbrev pub IsStep : ℕ → List ℕ → (Lexeme → Option Op) → (ℕ → Limited Lexeme Counted) → Counted → Limited Lexeme Counted
+IsStep slack first operator Operand x = do
+  o ← IsNode slack x.1 first (One operator)
   y ← Operand (x.1 + 1)
   pure (e.Op o x.0 y.0, y.1)
 
 abbrev pub IsLiteral : ℕ → ℕ → Limited Lexeme Counted
 IsLiteral slack nodes = do
-  x ← IsNode slack nodes (One literal_expr)
+  x ← IsNode slack nodes literals (One literal_expr)
   pure (x, nodes + 1)
 
 -- "." Word, behind the name of a symbol
@@ -211,7 +212,7 @@ module _ (slack : ℕ) (Inner : ℕ → Limited Lexeme Counted) where
   -- Word | Word "." Word | Word "(" [ expr { "," expr } ] ")"
   abbrev pub IsNamed : ℕ → Limited Lexeme Counted
   IsNamed nodes = do
-    name ← IsNode slack nodes IsWord
+    name ← IsNode slack nodes words IsWord
     Either (IsMake name (nodes + 1)) (Either (IsTwo name (nodes + 1)) (pure (e.One name, nodes + 1)))
 
   abbrev pub IsAtom : ℕ → Limited Lexeme Counted
@@ -219,22 +220,22 @@ module _ (slack : ℕ) (Inner : ℕ → Limited Lexeme Counted) where
 
   -- atom { "*" atom }
   abbrev pub IsProduct : ℕ → Limited Lexeme Counted
-  IsProduct nodes = IsAtom nodes >>= Loop (IsStep slack times_of IsAtom)
+  IsProduct nodes = IsAtom nodes >>= Loop (IsStep slack times times_of IsAtom)
 
   -- product { ( "+" | "-" ) product }
   abbrev pub IsSum : ℕ → Limited Lexeme Counted
-  IsSum nodes = IsProduct nodes >>= Loop (IsStep slack plus_of IsProduct)
+  IsSum nodes = IsProduct nodes >>= Loop (IsStep slack plus plus_of IsProduct)
 
   -- sum [ ( "==" | "<" ) sum ]
   abbrev pub IsCompare : ℕ → Limited Lexeme Counted
   IsCompare nodes = do
     x ← IsSum nodes
-    Either (IsStep slack comparison_of IsSum x) (pure x)
+    Either (IsStep slack comparisons comparison_of IsSum x) (pure x)
 
   -- "if" expr "then" expr "else" expr
   abbrev pub IsIf : ℕ → Limited Lexeme Counted
   IsIf nodes = do
-    IsNode slack nodes (mark m.If)
+    IsNode slack nodes (only m.If) (mark m.If)
     condition ← Inner (nodes + 1)
     mark m.Then
     then_part ← Inner condition.1
@@ -247,7 +248,7 @@ module _ (slack : ℕ) (Inner : ℕ → Limited Lexeme Counted) where
 
 abbrev pub IsExpr : ℕ → Limited Lexeme RawExpr
 IsExpr slack = do
-  x ← Levels (IsExprOver slack) (level_limit slack) 0
+  x ← Levels kind exprs (IsExprOver slack) (level_limit slack) 0
   pure x.0
 
 -- ---- items
@@ -310,7 +311,7 @@ Items = List RawItem × ℕ
 -- a local or a nonterminal attribute behind other items
 abbrev pub IsDeclaration : ℕ → Items → Limited Lexeme Items
 IsDeclaration slack s = do
-  x ← Within (nat_lt s.1 (local_limit slack)) (passing Locals) (Either (IsLocal slack) (IsAttach slack))
+  x ← Within kind (nat_lt s.1 (local_limit slack)) declarations (passing Locals) (Either (IsLocal slack) (IsAttach slack))
   pure (s.0 ++ x ∷ [], s.1 + 1)
 
 -- another item behind these
@@ -361,7 +362,7 @@ abbrev pub IsTermOver : (Unit {0} → Limited Lexeme RawTerm) → Unit {0} → L
 IsTermOver Inner q = Either (One literal_term) (IsTree (Inner q))
 
 abbrev pub IsTerm : ℕ → Limited Lexeme RawTerm
-IsTerm slack = Levels IsTermOver (level_limit slack) tt
+IsTerm slack = Levels kind terms IsTermOver (level_limit slack) tt
 
 -- ---- the header and the grammar
 
@@ -383,8 +384,8 @@ grammar_of sorts prods start = record { sorts = sorts; prods = prods; start = st
 -- { sort } { prod } start
 abbrev pub IsGrammar : ℕ → Limited Lexeme RawGrammar
 IsGrammar slack = do
-  sorts ← Most (sort_limit slack) (passing Sorts) (IsSort slack)
-  prods ← Most (production_limit slack) (passing Productions) (IsProd slack)
+  sorts ← Most kind (sort_limit slack) (only m.Sort) (passing Sorts) (IsSort slack)
+  prods ← Most kind (production_limit slack) (only m.Prod) (passing Productions) (IsProd slack)
   start ← IsStart
   pure (grammar_of sorts prods start)
 
@@ -440,9 +441,9 @@ IsSession slack = do
   mark m.On
   tree ← IsTerm slack
   mark m.LeftBrace
-  edits ← Most (edit_limit slack) (passing Edits) (IsEdit slack)
+  xs ← Most kind (edit_limit slack) edits (passing Edits) (IsEdit slack)
   mark m.RightBrace
-  pure (script_of tree edits)
+  pure (script_of tree xs)
 
 abbrev pub job_of : RawGrammar → List RawScript → Job
 job_of grammar sessions = record { grammar = grammar; sessions = sessions }
@@ -453,5 +454,5 @@ IsJob slack = do
   mark m.Lrc
   One one_of
   grammar ← IsGrammar slack
-  sessions ← Most (session_limit slack) (passing Sessions) (IsSession slack)
+  sessions ← Most kind (session_limit slack) (only m.Session) (passing Sessions) (IsSession slack)
   pure (job_of grammar sessions)

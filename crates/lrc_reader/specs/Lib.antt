@@ -1,6 +1,7 @@
 pub mod Place
 pub mod Lexeme
 pub mod Limits
+pub mod First
 pub mod Grammar
 pub mod Reading
 pub mod Gives

@@ -26,8 +26,9 @@ use Rattle.lrc_reader.specs.declared.lexeme.Mark.{Mark}
 use Rattle.lrc_reader.specs.declared.lexeme.Mark.TheVariants as m
 use Rattle.lrc_reader.specs.declared.fault.Limit.{Limit}
 use Rattle.lrc_reader.specs.declared.fault.Limit.TheVariants.{Sorts, Attributes, Productions, Children, Locals, Nodes, Sessions, Edits}
-use Rattle.lrc_reader.specs.Lexeme.{kind, number, word_kind, natural_kind, negative_kind, name_kind, text_kind, path_kind, word_of, path_of}
+use Rattle.lrc_reader.specs.Lexeme.{kind, number, word_of, path_of}
 use Rattle.lrc_reader.specs.Limits.{sort_limit, attribute_limit, production_limit, child_limit, local_limit, node_limit, session_limit, edit_limit, level_limit, passing}
+use Rattle.lrc_reader.specs.First.{only, words, naturals, paths, literals, directions, kinds, times, plus, comparisons, atoms, exprs, declarations, others, items, pieces, terms, edits}
 use Rattle.lrc_reader.specs.Grammar.{Name, attr_of, sort_of, kid_of, Counted, literal_expr, times_of, plus_of, comparison_of, piece_of, equation_of, Items, prod_of, literal_term, one_of, grammar_of, count_of, script_of, job_of}
 
 abbrev pub Reader : Type 0 → Type 0
@@ -59,62 +60,6 @@ read_word = read_one word_of
 
 unfoldable pub read_path : Reader Path
 read_path = read_one path_of
-
--- ---- what parts begin with
-
-abbrev pub only : Mark → List ℕ
-only mark = number mark ∷ []
-
-abbrev pub words : List ℕ
-words = word_kind ∷ []
-
-abbrev pub naturals : List ℕ
-naturals = natural_kind ∷ []
-
-abbrev pub paths : List ℕ
-paths = path_kind ∷ []
-
-abbrev pub literals : List ℕ
-literals = natural_kind ∷ negative_kind ∷ name_kind ∷ number m.True ∷ number m.False ∷ []
-
-abbrev pub directions : List ℕ
-directions = number m.Inh ∷ number m.Syn ∷ []
-
-abbrev pub kinds : List ℕ
-kinds = number m.Int ∷ number m.Bool ∷ number m.Name ∷ words
-
-abbrev pub times : List ℕ
-times = only m.Star
-
-abbrev pub plus : List ℕ
-plus = number m.Plus ∷ number m.Minus ∷ []
-
-abbrev pub comparisons : List ℕ
-comparisons = number m.SameAs ∷ number m.Less ∷ []
-
-abbrev pub atoms : List ℕ
-atoms = literals ++ number m.LeftParen ∷ words
-
-abbrev pub exprs : List ℕ
-exprs = number m.If ∷ atoms
-
-abbrev pub declarations : List ℕ
-declarations = number m.Local ∷ number m.Attach ∷ []
-
-abbrev pub others : List ℕ
-others = number m.Text ∷ words
-
-abbrev pub items : List ℕ
-items = declarations ++ others
-
-abbrev pub pieces : List ℕ
-pieces = text_kind ∷ words
-
-abbrev pub terms : List ℕ
-terms = literals ++ words
-
-abbrev pub edits : List ℕ
-edits = number m.Put ∷ number m.Copy ∷ number m.Show ∷ number m.Forget ∷ []
 
 -- ---- sorts
 

@@ -10,7 +10,7 @@ ghost use Rattle.lrc_reader.specs.Reading as reading;
 ghost use Rattle.lrc_reader.specs.Gives.{Gives};
 
 use crate::fault::{Limit, Stop};
-use crate::lexeme::{Lexeme, Mark, WORD_KIND, kind_of, lexeme_of, number_of};
+use crate::lexeme::{Lexeme, Mark, kind_of, lexeme_of, number_of};
 use lrc_base::{NameText, Path};
 use lrc_lex::Token;
 use std::alloc::Global;
@@ -100,13 +100,6 @@ impl<'a> Cursor<'a> {
         ensures { result ≡ starts kind (number mark ∷ []) self.now }
     {
         self.sees_one_of(&[number_of(mark)])
-    }
-
-    /// Whether the next lexeme is a word.
-    pub fn sees_word(&self) -> bool
-        ensures { result ≡ starts kind reading.words self.now }
-    {
-        self.sees_one_of(&[WORD_KIND])
     }
 
     /// That there is room behind `count` of them, at most `most`, for another that begins with one
@@ -205,12 +198,5 @@ impl<'a> Cursor<'a> {
         };
         self.advance();
         Ok(count)
-    }
-
-    /// Whether no lexeme is left.
-    pub fn is_at_end(&self) -> bool
-        ensures { IsTrue result ↔ (self.now ≡ []) }
-    {
-        self.tokens.is_empty()
     }
 }

@@ -126,12 +126,7 @@ fn attribute(cursor: &mut Cursor<'_>, symbol: NameText, nodes: usize) -> Result<
 }
 
 /// An operation.
-fn operation(
-    alloc: Global,
-    operator: Op,
-    left: RawExpr,
-    right: RawExpr,
-) -> Result<RawExpr, Memory>
+fn operation(alloc: Global, operator: Op, left: RawExpr, right: RawExpr) -> Result<RawExpr, Memory>
     ensures { IfOk result (λ x. x ≡ RawExpr.Op operator left right) }
 {
     Ok(RawExpr::Op(

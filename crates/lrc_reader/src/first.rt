@@ -26,7 +26,10 @@ pub const DIRECTIONS: [u8; 2] = [MARK_KIND + Mark::Inh as u8, MARK_KIND + Mark::
 pub const PRODUCTIONS: [u8; 1] = [MARK_KIND + Mark::Prod as u8];
 
 /// Of a local or a nonterminal attribute.
-pub const DECLARATIONS: [u8; 2] = [MARK_KIND + Mark::Local as u8, MARK_KIND + Mark::Attach as u8];
+pub const DECLARATIONS: [u8; 2] = [
+    MARK_KIND + Mark::Local as u8,
+    MARK_KIND + Mark::Attach as u8,
+];
 
 /// Of an item.
 pub const ITEMS: [u8; 4] = [

@@ -169,7 +169,12 @@ fn declaration(
 
 /// One other item more.
 #[tactic(auto, unfolding(crate::specs::Reading::read_other))]
-fn other(alloc: Global, cursor: &mut Cursor<'_>, items: &mut List<RawItem>, count: usize) -> Result<(), Stop>
+fn other(
+    alloc: Global,
+    cursor: &mut Cursor<'_>,
+    items: &mut List<RawItem>,
+    count: usize,
+) -> Result<(), Stop>
     ensures { GivesAs (λ _. (items.new, count)) result cursor.new (reading.read_other 0 (items.old, count) cursor.old) }
 {
     items.push(undeclared(alloc, cursor)?)?;

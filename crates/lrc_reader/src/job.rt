@@ -9,6 +9,7 @@ ghost use Rattle.lrc_meaning.specs.Limits.{KeepsLimits};
 ghost use Rattle.lrc_reader.specs.Denotes.{Denotes};
 ghost use Rattle.lrc_reader.specs.Faults.{FirstTextFault, start_of};
 ghost use Rattle.lrc_reader.specs.Gives.{fault_at};
+ghost use Rattle.lrc_reader.specs.declared.fault.JobFault.{JobFault};
 
 use crate::cursor::Cursor;
 use crate::fault::{JobFault, Stop};
@@ -100,4 +101,10 @@ pub fn read_job(alloc: Global, bytes: &[u8]) -> Result<Job, JobFault>
 /// A text denotes at most one job.
 pub fn one_job()
     ensures { (bytes : Sequence ℕ) (job other : Job) → Denotes bytes job → Denotes bytes other → job ≡ other }
+{}
+
+/// What holds of any text: it has at most one first fault, and none where it denotes a job.
+pub fn fault_laws()
+    ensures one { (text : Sequence ℕ) (fault other : JobFault) → FirstTextFault text fault → FirstTextFault text other → fault ≡ other }
+    ensures never_both { (text : Sequence ℕ) (fault : JobFault) (job : Job) → FirstTextFault text fault → Denotes text job → ⊥ }
 {}

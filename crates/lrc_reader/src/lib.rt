@@ -23,4 +23,7 @@ mod term;
 mod whole;
 
 pub use fault::{JobFault, Limit};
-pub use job::{one_job, read_job};
+pub use job::{fault_laws, one_job, read_job};
+
+#[cfg(test)]
+mod tests;

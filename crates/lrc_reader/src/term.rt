@@ -77,11 +77,7 @@ fn another_term(
 /// One term or more, with commas between.
 #[cycle(term)]
 #[tactic(auto, unfolding(crate::specs::Reading::read_some_terms), using(crate::proofs::Shorter::term_turn, crate::proofs::Shorter::term_stops, crate::proofs::Shorter::term_end, crate::proofs::Shorter::term_shorter))]
-fn some_terms(
-    alloc: Global,
-    cursor: &mut Cursor<'_>,
-    levels: usize,
-) -> Result<List<RawTerm>, Stop>
+fn some_terms(alloc: Global, cursor: &mut Cursor<'_>, levels: usize) -> Result<List<RawTerm>, Stop>
     ensures { Gives result cursor.new (reading.read_some_terms (reading.read_term_at levels) cursor.old) }
 {
     let mut terms = List::new(alloc);
@@ -95,11 +91,7 @@ fn some_terms(
 /// Any number of terms.
 #[cycle(term)]
 #[tactic(auto, unfolding(crate::specs::Reading::read_any_terms, lrc_parse::specs::Reading::read_either))]
-fn any_terms(
-    alloc: Global,
-    cursor: &mut Cursor<'_>,
-    levels: usize,
-) -> Result<List<RawTerm>, Stop>
+fn any_terms(alloc: Global, cursor: &mut Cursor<'_>, levels: usize) -> Result<List<RawTerm>, Stop>
     ensures { Gives result cursor.new (reading.read_any_terms (reading.read_term_at levels) cursor.old) }
 {
     if cursor.sees_one_of(&TERMS) {
