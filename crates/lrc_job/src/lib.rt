@@ -10,3 +10,6 @@ mod terms;
 
 pub use fault::AcceptFault;
 pub use job::{Accepted, accept};
+
+#[cfg(test)]
+mod tests;
