@@ -1,12 +1,12 @@
 -- What is found of arguments, one by one.
-use Rattle.std.proofs.Common.{◌≡◌, ℕ, zero, suc, ◌+◌, ◌<◌, ◌≤◌, ◌≢◌, Bool, true, false, ◌&&◌, List, [], ◌∷◌, ◌++◌, map, flat_map, length, drop, get_or, slice_get, Option, Some, None, Result, Ok, Err, refl, sym, ap, ◌∙◌, arith, add-one, nat_eq}
+use Rattle.std.proofs.Common.{◌≡◌, ℕ, zero, suc, ◌+◌, ◌<◌, ◌≤◌, ◌≢◌, Bool, true, false, ◌&&◌, List, [], ◌∷◌, map, flat_map, length, drop, get_or, slice_get, Some, Ok, Err, refl, sym, ap, ◌∙◌, arith, add-one, nat_eq}
 use Rattle.std.proofs.lemmas.Bool.Decides.{nat_tests}
 use Rattle.std.proofs.lemmas.Grind.{common_steps}
 use Rattle.lrc_base.specs.declared.raw.RawKind.{RawKind}
 use Rattle.lrc_base.specs.declared.raw.RawKid.{RawKid}
 use Rattle.lrc_base.specs.declared.raw.RawExpr.{RawExpr}
 use Rattle.lrc_grammar.proofs.FittingLemmas.{next_left, and_false}
-use Rattle.lrc_faults.specs.Faults.{Fault, Found, of_kind, same_kind, is_right, are_right}
+use Rattle.lrc_faults.specs.Faults.{Fault, Found, of_kind, is_right, are_right}
 use Rattle.lrc_check.specs.declared.fault.GrammarFault.{GrammarFault}
 use Rattle.lrc_check.specs.Verdict.{verdict, is_of_kind}
 use Rattle.lrc_check.proofs.ListLemmas.{and_then, verdict_append}

@@ -1,5 +1,5 @@
 -- The equations of `found_of`, one for each variant.
-use Rattle.std.proofs.Common.{◌≡◌, Bool, List, [], map, Option, Some, None, sym, ap, ◌∙◌}
+use Rattle.std.proofs.Common.{◌≡◌, Bool, List, [], map, Some, None, sym, ap, ◌∙◌}
 use Rattle.std.specs.Prelude.{find}
 use Rattle.std.specs.Str.{bytes_eq}
 use Rattle.lrc_base.specs.declared.raw.RawKind.TheVariants as rk

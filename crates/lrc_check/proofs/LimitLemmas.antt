@@ -1,6 +1,6 @@
 -- The grammar that is written keeps the limits of counts that the writing keeps.
-use Rattle.std.proofs.Common.{◌≡◌, ℕ, zero, suc, ◌≤◌, ◌<◌, ◌+◌, Bool, true, false, ◌&&◌, IsTrue, List, [], ◌∷◌, ◌++◌, All, map, flat_map, length, count_by, Option, Some, None, option_map, option_and_then, refl, sym, ap, ◌∙◌, subst, arith, length-append, get_or}
-use Rattle.std.specs.Prelude.{nat_le, cond}
+use Rattle.std.proofs.Common.{◌≡◌, ℕ, zero, suc, ◌≤◌, ◌+◌, Bool, true, false, ◌&&◌, IsTrue, List, [], ◌∷◌, All, map, flat_map, length, count_by, Option, Some, None, option_map, option_and_then, refl, sym, ap, ◌∙◌, subst, arith}
+use Rattle.std.specs.Prelude.{cond}
 use Rattle.std.specs.List.{list_all}
 use Rattle.std.proofs.lemmas.Bool.{le-leb}
 use Rattle.std.proofs.lemmas.List.{length-map}
@@ -19,7 +19,7 @@ use Rattle.lrc_base.specs.declared.raw.RawProd.{RawProd}
 use Rattle.lrc_base.specs.declared.raw.RawGrammar.{RawGrammar}
 use Rattle.lrc_meaning.specs.Grammar.{Grammar}
 use Rattle.lrc_meaning.specs.Limits.{KeepsLimits, is_declaration}
-use Rattle.lrc_meaning.specs.Naming.{each_some, sort_number, named_kind, named_attr, named_sort, named_kid, named_extra, named_extras, named_equations, named_pattern, called_occurrences, named_with, named_production, named_grammar}
+use Rattle.lrc_meaning.specs.Naming.{each_some, sort_number, named_attr, named_sort, named_kid, named_extra, named_extras, named_equations, named_pattern, called_occurrences, named_with, named_production, named_grammar}
 use Rattle.lrc_grammar.specs.Limits.{has_few_attributes, has_few_parts, keeps_limits}
 
 both : (a b : Bool) → a ≡ true → b ≡ true → (a && b) ≡ true

@@ -1,5 +1,5 @@
 -- The equations that are missing, part by part.
-use Rattle.std.proofs.Common.{◌≡◌, List, [], ◌∷◌, ◌++◌, map, flat_map, append_assoc, Result, Ok, Err, refl, sym, ap, ◌∙◌, subst}
+use Rattle.std.proofs.Common.{◌≡◌, List, [], ◌∷◌, ◌++◌, map, flat_map, append_assoc, Ok, refl, sym, ap, ◌∙◌}
 use Rattle.lrc_base.specs.declared.raw.RawAttr.{RawAttr}
 use Rattle.lrc_base.specs.declared.raw.RawSort.{RawSort}
 use Rattle.lrc_base.specs.declared.raw.RawKid.{RawKid}
@@ -9,7 +9,7 @@ use Rattle.lrc_faults.specs.Faults.{Fault, attrs_named, declared_by, missing_of_
 use Rattle.lrc_check.specs.declared.declared.Declared.{Declared}
 use Rattle.lrc_check.specs.Declares.{declaration}
 use Rattle.lrc_check.specs.Verdict.{verdict, name_faults}
-use Rattle.lrc_check.proofs.ListLemmas.{Verdict, and_then, verdict_append}
+use Rattle.lrc_check.proofs.ListLemmas.{and_then, verdict_append}
 
 flat_mapped : {A B : Type 0} (f : B → List Fault) (h : A → B) (xs : List A) → flat_map f (map h xs) ≡ flat_map (λ x. f (h x)) xs
 flat_mapped f h [] = refl

@@ -1,5 +1,5 @@
 -- What an item of a production declares, and what names mean in a production.
-use Rattle.std.specs.Prelude.{◌≡◌, Bool, false, Some, None, List, bytes_eq, map, flat_map}
+use Rattle.std.specs.Prelude.{Bool, false, Some, None, bytes_eq}
 use Rattle.lrc_base.specs.declared.raw.RawItem.{RawItem}
 use Rattle.lrc_base.specs.declared.raw.RawItem.TheVariants as item
 use Rattle.lrc_faults.specs.Faults as f

@@ -1,6 +1,9 @@
 //! The grammar of sums as it is written, with other equations of a number's value, and a grammar
 //! whose expressions inherit.
-use crate::{GrammarFault, GrammarKind, first_fault};
+ghost use Rattle.std.specs.Prelude.{◌≡◌, ◌≤◌, [], ◌∷◌, length, IfOk};
+ghost use Rattle.lrc_meaning.specs.Limits.{KeepsLimits};
+
+use crate::{GrammarFault, GrammarKind, check, first_fault};
 use lrc_base::{
     Boxed, List, Memory, NameText, Op, RawAttr, RawExpr, RawGrammar, RawItem, RawKid, RawKind,
     RawProd, RawSort,
@@ -12,17 +15,26 @@ fn named(bytes: &[u8]) -> Result<NameText, Fail> {
     Ok(NameText::of(bytes).ok_or("no name")?)
 }
 
-fn one<T: Drop>(alloc: Global, item: T) -> Result<List<T>, Memory> {
+fn one<T: Drop>(alloc: Global, item: T) -> Result<List<T>, Memory>
+    ensures { IfOk result (λ list. list ≡ item ∷ []) }
+{
     let mut items = List::new(alloc);
     items.push(item)?;
     Ok(items)
 }
 
-fn attr(name: &[u8], inherited: bool) -> Result<RawAttr, Fail> {
-    Ok(RawAttr {
+/// `sort Exp { NAME: Int; }`
+fn exp(alloc: Global, name: &[u8], inherited: bool) -> Result<RawSort, Fail>
+    ensures { IfOk result (λ sort. length sort.attrs ≤ 16) }
+{
+    let attr = RawAttr {
         name: named(name)?,
         inherited,
         kind: RawKind::Int,
+    };
+    Ok(RawSort {
+        name: named(b"Exp")?,
+        attrs: one(alloc, attr)?,
     })
 }
 
@@ -72,13 +84,9 @@ fn add(alloc: Global) -> Result<RawProd, Fail> {
 
 /// The grammar of sums, where a number has these items.
 fn sums(alloc: Global, items: List<RawItem>) -> Result<RawGrammar, Fail> {
-    let sort = RawSort {
-        name: named(b"Exp")?,
-        attrs: one(alloc, attr(b"val", false)?)?,
-    };
     let prods = vec![in alloc; num(alloc, items)?, add(alloc)?]?;
     Ok(RawGrammar {
-        sorts: one(alloc, sort)?,
+        sorts: one(alloc, exp(alloc, b"val", false)?)?,
         prods: List::from_vec(prods),
         start: named(b"Exp")?,
     })
@@ -148,19 +156,29 @@ fn faults_of_items(rt: HostRuntime) -> Result<(), Fail> {
     Ok(())
 }
 
-#[test]
-fn the_start_inherits(rt: HostRuntime) -> Result<(), Fail> {
-    let alloc = rt.alloc();
-    let sort = RawSort {
-        name: named(b"Exp")?,
-        attrs: one(alloc, attr(b"env", true)?)?,
-    };
-    let raw = RawGrammar {
-        sorts: one(alloc, sort)?,
+/// `sort Exp { .. env: Int; } start Exp;`
+fn one_sort(alloc: Global, inherited: bool) -> Result<RawGrammar, Fail>
+    ensures { IfOk result (λ raw. KeepsLimits raw) }
+{
+    Ok(RawGrammar {
+        sorts: one(alloc, exp(alloc, b"env", inherited)?)?,
         prods: List::new(alloc),
         start: named(b"Exp")?,
+    })
+}
+
+#[test]
+fn the_start_inherits_nothing(rt: HostRuntime) -> Result<(), Fail> {
+    let alloc = rt.alloc();
+    let raw = one_sort(alloc, false)?;
+    let Ok(grammar) = check(alloc, &raw) else {
+        return Err(Fail::from("a fault"));
     };
-    let fault = first_fault(alloc, &raw)?.expect(&rt, "a fault");
+    assert_eq!(rt; grammar.start, 0);
+    assert_eq!(rt; grammar.sorts.len(), 1);
+
+    let raw = one_sort(alloc, true)?;
+    let fault = check(alloc, &raw).err().expect(&rt, "a fault");
     assert!(rt; fault.kind == GrammarKind::StartInherits);
     assert!(rt; fault.place.bytes() == b"start".as_slice());
     assert!(rt; fault.name.bytes() == b"env".as_slice());

@@ -1,5 +1,5 @@
 -- The faults of sessions are none of the grammar.
-use Rattle.std.proofs.Common.{◌≡◌, ◌≢◌, ℕ, suc, Bool, true, false, cond, List, [], ◌∷◌, map, Option, Some, None, Result, Ok, Err, refl, sym, ap, ◌∙◌, subst}
+use Rattle.std.proofs.Common.{◌≡◌, ◌≢◌, ℕ, suc, Bool, true, false, cond, List, [], ◌∷◌, Result, Ok, Err, ap}
 use Rattle.lrc_base.specs.declared.grammar.Production.{Production}
 use Rattle.lrc_base.specs.declared.grammar.Kind.TheVariants as k
 use Rattle.lrc_base.specs.declared.job.RawEdit.{RawEdit}
@@ -8,13 +8,12 @@ use Rattle.lrc_base.specs.declared.job.RawScript.{RawScript}
 use Rattle.lrc_base.specs.declared.job.Job.{Job}
 use Rattle.lrc_meaning.specs.Tree.{Tree, kind_of}
 use Rattle.lrc_meaning.specs.Grammar.{Grammar}
-use Rattle.lrc_meaning.specs.Editing.{Change}
 use Rattle.lrc_check.specs.declared.fault.GrammarFault.{GrammarFault}
 use Rattle.lrc_resolve.specs.declared.fault.TermFault.{TermFault}
 use Rattle.lrc_resolve.specs.Resolved.{and_then, map_ok, is_of_kind, resolved}
 use Rattle.lrc_job.specs.declared.fault.AcceptFault.{AcceptFault}
 use Rattle.lrc_job.specs.declared.fault.AcceptFault.TheVariants as fault
-use Rattle.lrc_job.specs.Job.{Session, term_at, put_of, change_of, changes_of, of_start, session_of, sessions_of, HasSessions, IsFaultOf}
+use Rattle.lrc_job.specs.Job.{term_at, put_of, change_of, changes_of, of_start, session_of, sessions_of, HasSessions, IsFaultOf}
 
 -- a fault that is none of the grammar
 abbrev pub NotOfGrammar : {A : Type 0} → Result A AcceptFault → Type 0

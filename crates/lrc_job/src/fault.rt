@@ -15,7 +15,9 @@ pub enum AcceptFault {
         fault: TermFault,
     },
     /// The tree of a session is not of the start sort.
-    NotStart { session: u32 },
+    NotStart {
+        session: u32,
+    },
     /// Want of memory.
     Memory,
 }

@@ -5,8 +5,13 @@
 mod edits;
 mod fault;
 mod job;
+mod laws;
 mod sessions;
 mod terms;
 
 pub use fault::AcceptFault;
 pub use job::{Accepted, accept};
+pub use laws::{scripts_exactly_sessions_of_puts, sessions_exactly_where_fitting};
+
+#[cfg(test)]
+mod tests;

@@ -46,7 +46,7 @@ module _ (P : RawTerm → Type 0) where
 
 -- ---- kinds, and productions by number
 
-same_as_itself : (kind : Kind) → same_kind kind kind ≡ true
+pub same_as_itself : (kind : Kind) → same_kind kind kind ≡ true
 same_as_itself k.Int = refl
 same_as_itself k.Bool = refl
 same_as_itself k.Name = refl
