@@ -8,6 +8,7 @@
 mod itself;
 mod work;
 
+use anyhow::bail;
 use itself::Itself;
 use lrc_memo::SharedStore;
 use lrc_store::Store;
@@ -18,7 +19,7 @@ use work::{handles_of, recall_rounds, spread};
 fn main(rt: HostRuntime) -> anyhow::Result<()> {
     let words: Vec<String> = env::args(&rt)?.collect(rt.alloc())?;
     let [_, what, count, rounds, levels] = words.as_slice() else {
-        return Ok(());
+        bail!("four words are wanted: numbers, missed or remembered, and three numbers");
     };
     let count = count.parse::<u32>()?.clamp(1, 1 << 24);
     let rounds = rounds.parse::<u32>()?;

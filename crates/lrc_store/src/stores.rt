@@ -21,7 +21,8 @@ pub enum Recall {
 
 /// A store of cells, and of results of calls.
 ///
-/// Every handle given to a call is known. No call takes memory.
+/// Every handle given to a call is known. No call takes memory, and none changes in which memory the
+/// cells lie.
 pub trait Store {
     /// Which results may be remembered.
     type M: Meaning;
