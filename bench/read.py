@@ -3,14 +3,17 @@
 
     bench/read.py [PROGRAM]
 
-Prints microseconds a node of both, their ratio, and the peak memory of the larger. It measures and
-is no test. A node is a production's: a sum of n leaves has 2n - 1.
+Prints microseconds a node of both, their ratio, and the peak memory of the larger, and then the
+figures of notation.py. It measures and is no test. A node is a production's: a sum of n leaves has
+2n - 1.
 """
 import os
 import resource
 import subprocess
 import sys
 import time
+
+import notation
 
 GRAMMAR = """lrc 1
 sort Exp { syn val: Int; }
@@ -54,6 +57,7 @@ def main():
     print("ratio %.2f" % (micros[18] / micros[12]))
     peak = resource.getrusage(resource.RUSAGE_CHILDREN).ru_maxrss
     print("peak memory %.0f MiB" % (peak / 1024))
+    notation.measure(program)
 
 
 if __name__ == "__main__":
