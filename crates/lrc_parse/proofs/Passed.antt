@@ -1,20 +1,20 @@
 -- A reading stops at a limit just where the next token would pass it.
 use Rattle.std.proofs.Common.{◌≡◌, ℕ, zero, suc, ◌+◌, ◌<◌, ◌≤◌, eqb, ltb, Bool, true, false, cond, Option, Some, None, List, [], ◌∷◌, ◌++◌, length, refl, sym, ap, ◌∙◌, subst, ◌⊎◌, inl, inr, append_assoc, length-append, arith}
 use Rattle.std.proofs.lemmas.Bool.{eqb-true}
-use Rattle.lrc_parse.specs.Kinds.{has, disjoint, starts}
+use Rattle.lrc_parse.specs.Kinds.{disjoint, starts}
 use Rattle.lrc_parse.specs.Language as plain
-use Rattle.lrc_parse.specs.Limited.{Limited, Beyond, Empty, One, Of, Given, Either, Optional, Within, Loop, Many, Most, Fixed, Skip, Separated, SeparatedMost}
-use Rattle.lrc_parse.specs.Reading.{Cause, expected, Reading, took, stops, on_took, token_value, past_token, read_empty, read_one, read_of, read_given, read_fixed, read_skip, read_either, read_nothing, read_within, read_turns, read_loop}
+use Rattle.lrc_parse.specs.Limited.{Limited, Beyond, Empty, One, Of, Given, Either, Within, Loop, Many, Most, Fixed, Skip, Separated, SeparatedMost}
+use Rattle.lrc_parse.specs.Reading.{Cause, expected, Reading, took, stops, on_took, token_value, read_empty, read_one, read_of, read_given, read_fixed, read_skip, read_either, read_nothing, read_within, read_turns, read_loop}
 use Rattle.lrc_parse.specs.Exact.{Shape, Exact, shape_one, shape_empty, shape_then, shape_either, shape_skip, shape_many}
 use Rattle.lrc_parse.proofs.Sets.{true_not_false, has_left, has_right, apart}
-use Rattle.lrc_parse.proofs.Steps.{read_of_stops, read_given_took, read_given_stops, read_skip_took, read_either_first, read_either_second, read_nothing_first, read_within_room, read_within_passed}
+use Rattle.lrc_parse.proofs.Steps.{read_of_stops, read_given_took, read_given_stops, read_skip_took, read_either_first, read_either_second, read_nothing_first}
 use Rattle.lrc_parse.proofs.Back.{stops_not_took}
 use Rattle.lrc_parse.proofs.Parts.{two_parts, first_there, first_behind}
 use Rattle.lrc_parse.proofs.Places.{same_cause, same_left, on_took_stops}
 use Rattle.lrc_parse.proofs.Loops.{read_loop_stops, read_loop_more}
 use Rattle.lrc_parse.proofs.LoopPlaces.{cond_cases_stops}
 use Rattle.lrc_parse.proofs.ListSteps.{starts_here}
-use Rattle.lrc_parse.proofs.Same.{pushed, skip_same, many_to, many_from, most_to, most_from, separated_to, separated_from, separated_most_to, separated_most_from}
+use Rattle.lrc_parse.proofs.Same.{pushed, many_to, many_from, most_to, most_from, separated_to, separated_from, separated_most_to, separated_most_from}
 
 module _ {T A : Type 0} (kind : T → ℕ) where
   pub record Passed (s : Shape) (L : Limited T A) (read : List T → Reading T A) : Type 0 where
@@ -285,7 +285,7 @@ module _ {T S : Type 0} (kind : T → ℕ) (s : Shape) (step : S → Limited T S
   meets_turns (suc k) x z p o c t q m h =
       let rest : List T = (m.1 ++ o) ++ t ∷ q in
       let same : (p ++ o) ++ t ∷ q ≡ m.0 ++ rest =
-          ap (λ v. (v ++ o) ++ t ∷ q) m.3 ∙ append_assoc (m.0 ++ m.1) o (t ∷ q) ∙ append_assoc m.0 m.1 (o ++ t ∷ q) ∙ ap (λ v. m.0 ++ v) (sym (append_assoc m.1 o (t ∷ q))) in
+      ap (λ v. (v ++ o) ++ t ∷ q) m.3 ∙ append_assoc (m.0 ++ m.1) o (t ∷ q) ∙ append_assoc m.0 m.1 (o ++ t ∷ q) ∙ ap (λ v. m.0 ++ v) (sym (append_assoc m.1 o (t ∷ q))) in
       ap (read_loop kind s.first read x) same ∙
       read_loop_more kind s.first read x m.2 (m.0 ++ rest) rest (starts_turn x m.2 m.0 rest m.4)
       ((e x).complete m.0 rest m.2 m.4 (clear_turn rest (opens_turns k m.2 z m.1 o c t q m.5 h))) (shorter_turn x m.2 m.0 rest m.4) ∙

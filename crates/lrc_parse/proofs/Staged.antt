@@ -1,5 +1,5 @@
 -- Exact readings with a place for each stop, shown in stages, so that what stands within itself can be.
-use Rattle.std.proofs.Common.{◌≡◌, ℕ, ◌<◌, ◌≤◌, ltb, Bool, true, false, cond, Option, Some, None, List, [], ◌∷◌, length, refl, sym, arith, inl, inr}
+use Rattle.std.proofs.Common.{◌≡◌, ℕ, ◌<◌, ◌≤◌, ltb, Bool, true, false, cond, Option, Some, None, List, [], ◌∷◌, length, refl, arith, inl, inr}
 use Rattle.std.proofs.lemmas.Bool.{lt-ltb, ltb-true}
 use Rattle.lrc_parse.specs.Kinds.{has, disjoint, covered}
 use Rattle.lrc_parse.specs.Limited.{Limited, Empty, One, Of, Given, Either, Optional, Within, Loop, Many, Most, Fixed, Skip, Separated, SeparatedMost}
@@ -7,12 +7,12 @@ use Rattle.lrc_parse.specs.Reading.{Cause, expected, Reading, read_empty, read_o
 use Rattle.lrc_parse.specs.Exact.{Shape, Exact, shape_one, shape_empty, shape_then, shape_either, shape_skip, shape_many}
 use Rattle.lrc_parse.specs.Faults.{Widening, Begins, Grows, Tame, Rich, Placed, Full, Limit}
 use Rattle.lrc_parse.proofs.Sets.{true_not_false, clear_covered}
-use Rattle.lrc_parse.proofs.Same.{pushed, skip_to, skip_from, skip_same, many_to, many_from, many_same, most_to, most_from, most_same, separated_to, separated_from, separated_same, separated_most_to, separated_most_from, separated_most_same}
-use Rattle.lrc_parse.proofs.Parts.{exact_skip, exact_as, exact_empty, exact_one, exact_of, exact_fixed, exact_given, exact_either, exact_within, disjoint_nil}
+use Rattle.lrc_parse.proofs.Same.{pushed, skip_to, skip_same, many_to, many_from, many_same, most_to, most_from, most_same, separated_to, separated_from, separated_same, separated_most_to, separated_most_from, separated_most_same}
+use Rattle.lrc_parse.proofs.Parts.{exact_skip, exact_as, exact_empty, exact_of, exact_given, exact_either, exact_within, disjoint_nil}
 use Rattle.lrc_parse.proofs.Loops.{exact_loop}
 use Rattle.lrc_parse.proofs.Grow.{sub_skip, sub_of, sub_given, sub_either}
-use Rattle.lrc_parse.proofs.TameRich.{tame_as, tame_empty, tame_one, tame_of, tame_fixed, tame_skip, tame_given, tame_either, tame_within, tame_loop, rich_as, rich_empty, rich_one, rich_of, rich_fixed, rich_skip, rich_given, rich_either, rich_within, rich_loop, some_of, some_given, some_left}
-use Rattle.lrc_parse.proofs.Places.{placed_as, placed_empty, placed_one, placed_of, placed_given, placed_either, placed_within}
+use Rattle.lrc_parse.proofs.TameRich.{tame_as, tame_empty, tame_of, tame_skip, tame_given, tame_either, tame_within, tame_loop, rich_as, rich_empty, rich_of, rich_skip, rich_given, rich_either, rich_within, rich_loop, some_of, some_given, some_left}
+use Rattle.lrc_parse.proofs.Places.{placed_as, placed_empty, placed_of, placed_given, placed_either, placed_within}
 use Rattle.lrc_parse.proofs.LoopPlaces.{loop_grows, placed_loop}
 use Rattle.lrc_parse.proofs.Passed.{Passed, passed_as, passed_empty, passed_one, passed_of, passed_fixed, passed_skip, passed_given, passed_either, passed_within, passed_loop, many_passes, passes_many, most_passes, passes_most, separated_passes, passes_separated, separated_most_passes, passes_separated_most}
 use Rattle.lrc_parse.proofs.Full.{full_one, full_fixed}

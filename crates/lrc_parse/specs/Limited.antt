@@ -1,5 +1,5 @@
 -- Languages within limits: besides the sentences, the tokens that would pass a limit.
-use Rattle.std.specs.Prelude.{◌≡◌, ℕ, zero, suc, nat_lt, Bool, true, false, Option, Some, None, List, [], ◌∷◌, ◌++◌, length, ◌⊎◌}
+use Rattle.std.specs.Prelude.{◌≡◌, ℕ, zero, suc, nat_lt, Bool, true, false, Option, List, [], ◌∷◌, ◌++◌, length, ◌⊎◌}
 use Rattle.lrc_parse.specs.Kinds.{has}
 use Rattle.lrc_parse.specs.Language as plain
 use Rattle.lrc_parse.specs.Language.{Lang}

@@ -1,17 +1,11 @@
 -- Each reading reads exactly its part of the grammar, with a place for each stop.
-use Rattle.std.proofs.Common.{◌≡◌, ℕ, zero, suc, ◌+◌, ◌<◌, ◌≤◌, ltb, Bool, true, false, cond, Option, Some, None, List, [], ◌∷◌, ◌++◌, length, refl, sym, inl, inr, arith, pos}
-use Rattle.lrc_base.specs.declared.raw.RawExpr.TheVariants as e
-use Rattle.lrc_base.specs.declared.raw.RawExpr.{RawExpr}
-use Rattle.lrc_base.specs.declared.raw.RawTerm.{RawTerm}
-use Rattle.lrc_base.specs.declared.raw.RawTerm.TheVariants as t
-use Rattle.lrc_parse.specs.Kinds.{has, disjoint, covered}
-use Rattle.lrc_parse.specs.Limited.{Limited, Beyond, Empty, One, Given, Either, Optional, Within, Loop, Many, Most, Levels, Separated, SeparatedMost}
-use Rattle.lrc_parse.specs.Reading.{Cause, expected, nested, Reading, took, on_took, read_empty, read_one, read_given, read_either, read_optional, read_within, read_loop, read_levels, read_many, read_most}
-use Rattle.lrc_parse.specs.Exact.{Shape, shape_one, shape_empty, shape_then, shape_either, shape_many}
-use Rattle.lrc_parse.specs.Faults.{Widening, Limit, Deeper}
-use Rattle.lrc_parse.proofs.Sets.{true_not_false}
-use Rattle.lrc_parse.proofs.Deep.{deeper_wide}
-use Rattle.lrc_parse.proofs.Staged.{Staged, staged_as, staged_empty, staged_one, staged_fixed, staged_given, staged_either, staged_within, staged_loop, staged_optional, staged_many, staged_most, staged_more, room_keeps, room_somewhere}
+use Rattle.std.proofs.Common.{◌≡◌, ℕ, ltb, Bool, true, false, cond, Option, List, [], refl}
+use Rattle.lrc_parse.specs.Kinds.{has, disjoint}
+use Rattle.lrc_parse.specs.Limited.{Limited, Empty, One, Given, Either, Within}
+use Rattle.lrc_parse.specs.Reading.{took, on_took, read_empty, read_one, read_given, read_either, read_within}
+use Rattle.lrc_parse.specs.Exact.{Shape, shape_one, shape_empty, shape_then, shape_either}
+use Rattle.lrc_parse.specs.Faults.{Widening, Limit}
+use Rattle.lrc_parse.proofs.Staged.{Staged, staged_as, staged_empty, staged_one, staged_fixed, staged_given, staged_either, staged_within, room_keeps, room_somewhere}
 use Rattle.lrc_reader.specs.declared.lexeme.Lexeme.{Lexeme}
 use Rattle.lrc_reader.specs.declared.lexeme.Lexeme.TheVariants as l
 use Rattle.lrc_reader.specs.declared.lexeme.Mark.{Mark}
@@ -20,10 +14,10 @@ use Rattle.lrc_reader.specs.Lexeme.{kind, number, word_of, path_of}
 use Rattle.lrc_reader.specs.declared.fault.Limit as what
 use Rattle.lrc_reader.specs.Limits.{passing}
 use Rattle.lrc_reader.specs.Grammar as g
-use Rattle.lrc_reader.specs.First.{only, words, paths, literals, directions, kinds, times, plus, comparisons, atoms, exprs, declarations, others, items, pieces, terms, edits}
+use Rattle.lrc_reader.specs.First.{only, words, paths, directions, kinds}
 use Rattle.lrc_reader.specs.Reading.{Reader, pass, constant, read_room, read_word, read_path, read_named_kind, read_kind, read_direction, read_attr, read_kid}
 use Rattle.lrc_reader.proofs.Next.{room_and}
-use Rattle.lrc_reader.proofs.Tables.{Tells, among, has_value, tells_word, tells_path, tells_literal}
+use Rattle.lrc_reader.proofs.Tables.{Tells, among, has_value, tells_word, tells_path}
 
 -- ---- the combinators, with what their arguments tell left out
 

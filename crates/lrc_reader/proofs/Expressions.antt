@@ -1,25 +1,25 @@
 -- The readings of expressions are exact, with a place for each stop.
-use Rattle.std.proofs.Common.{◌≡◌, ℕ, zero, suc, ◌+◌, ◌<◌, ◌≤◌, ltb, Bool, true, false, cond, List, [], ◌∷◌, ◌++◌, refl, inl, inr, arith, pos}
+use Rattle.std.proofs.Common.{◌≡◌, ℕ, ◌+◌, ◌≤◌, ltb, Bool, true, false, List, [], ◌∷◌, refl, inl, inr, arith, pos}
 use Rattle.std.proofs.lemmas.Bool.{lt-ltb}
 use Rattle.lrc_base.specs.declared.raw.RawExpr.{RawExpr}
 use Rattle.lrc_base.specs.declared.raw.RawExpr.TheVariants as e
 use Rattle.lrc_parse.specs.Limited.{Limited, Beyond, Given, Loop, Levels}
-use Rattle.lrc_parse.specs.Reading.{nested, Reading, took, read_loop, read_levels}
-use Rattle.lrc_parse.specs.Exact.{Shape, shape_one, shape_empty, shape_then, shape_either, shape_many}
+use Rattle.lrc_parse.specs.Reading.{nested}
+use Rattle.lrc_parse.specs.Exact.{Shape, shape_empty, shape_then, shape_either, shape_many}
 use Rattle.lrc_parse.specs.Faults.{Widening, Limit, Deeper}
 use Rattle.lrc_parse.proofs.Deep.{deeper_wide}
-use Rattle.lrc_parse.proofs.Staged.{Staged, staged_within, staged_loop, staged_more, room_keeps, room_somewhere, stages}
+use Rattle.lrc_parse.proofs.Staged.{Staged, staged_loop, staged_more, stages}
 use Rattle.lrc_parse.proofs.Levels.{staged_levels, staged_chosen}
 use Rattle.lrc_reader.specs.declared.lexeme.Lexeme.{Lexeme}
 use Rattle.lrc_reader.specs.declared.lexeme.Lexeme.TheVariants as l
 use Rattle.lrc_reader.specs.declared.lexeme.Mark.TheVariants as m
 use Rattle.lrc_reader.specs.declared.fault.Limit.TheVariants.{Nodes}
 use Rattle.lrc_reader.specs.Lexeme.{kind, number}
-use Rattle.lrc_reader.specs.Limits.{node_limit, level_limit, passing}
+use Rattle.lrc_reader.specs.Limits.{node_limit, level_limit}
 use Rattle.lrc_reader.specs.Grammar as g
 use Rattle.lrc_reader.specs.Grammar.{Name, Counted, literal_expr, times_of, plus_of, comparison_of}
 use Rattle.lrc_reader.specs.First.{only, words, literals, times, plus, comparisons, atoms, exprs}
-use Rattle.lrc_reader.specs.Reading.{Reader, pass, read_node, read_literal, read_name, read_if_mark, read_times, read_plus, read_comparison, read_two, read_brackets, read_push_argument, read_argument, read_more_arguments, read_arguments, read_any_arguments, read_make, read_named, read_atom, read_factor, read_factors, read_product, read_addend, read_addends, read_sum, read_compared, read_compare, read_if, read_expr_over, read_expr_at, read_expr}
+use Rattle.lrc_reader.specs.Reading.{Reader, read_node, read_literal, read_name, read_if_mark, read_times, read_plus, read_comparison, read_two, read_brackets, read_push_argument, read_argument, read_more_arguments, read_arguments, read_any_arguments, read_make, read_named, read_atom, read_factor, read_factors, read_product, read_addend, read_addends, read_sum, read_compared, read_compare, read_if, read_expr_over, read_expr_at, read_expr}
 use Rattle.lrc_reader.proofs.Tables.{tells_literal, tells_times, tells_plus, tells_comparison}
 use Rattle.lrc_reader.proofs.Exactly.{then, end, either, one, roomy, begins, mark, word}
 

@@ -1,18 +1,18 @@
 -- The readings of the other parts of a job are exact, with a place for each stop.
-use Rattle.std.proofs.Common.{◌≡◌, ℕ, zero, suc, ◌+◌, ◌<◌, ◌≤◌, ltb, Bool, true, false, cond, Option, Some, None, List, [], ◌∷◌, ◌++◌, length, refl, sym, inl, inr, arith, pos, lit≤}
+use Rattle.std.proofs.Common.{◌≡◌, ℕ, ◌+◌, Bool, true, false, Some, List, [], ◌∷◌, refl, sym, inl, arith, pos}
 use Rattle.lrc_base.specs.declared.raw.RawTerm.{RawTerm}
 use Rattle.lrc_base.specs.declared.raw.RawTerm.TheVariants as t
 use Rattle.lrc_parse.specs.Kinds.{has, disjoint}
-use Rattle.lrc_parse.specs.Limited.{Limited, Beyond, Empty, One, Given, Either, Optional, Loop, Many, Most, Levels, Separated, SeparatedMost}
-use Rattle.lrc_parse.specs.Reading.{Cause, expected, nested, took, on_took, read_one, read_most, read_separated, read_separated_most}
-use Rattle.lrc_parse.specs.Exact.{Shape, shape_one, shape_empty, shape_then, shape_either, shape_skip, shape_many}
+use Rattle.lrc_parse.specs.Limited.{Limited, Beyond, One, Given, Either, Optional, Loop, Many, Most, Levels, Separated, SeparatedMost}
+use Rattle.lrc_parse.specs.Reading.{Cause, expected, nested, read_most, read_separated, read_separated_most}
+use Rattle.lrc_parse.specs.Exact.{Shape, shape_empty, shape_then, shape_either, shape_skip, shape_many}
 use Rattle.lrc_parse.specs.Faults.{Limit}
 use Rattle.lrc_parse.proofs.Sets.{true_not_false}
 use Rattle.lrc_parse.proofs.Parts.{exact_one}
 use Rattle.lrc_parse.proofs.TameRich.{tame_one}
 use Rattle.lrc_parse.proofs.Places.{placed_one}
 use Rattle.lrc_parse.proofs.Passed.{passed_one}
-use Rattle.lrc_parse.proofs.Staged.{Staged, staged_as, staged_within, staged_loop, staged_optional, staged_many, staged_most, staged_separated, staged_separated_most, room_keeps, room_somewhere, stages}
+use Rattle.lrc_parse.proofs.Staged.{Staged, staged_as, staged_loop, staged_optional, staged_many, staged_most, staged_separated, staged_separated_most, stages}
 use Rattle.lrc_parse.proofs.Levels.{staged_levels, staged_chosen}
 use Rattle.lrc_reader.specs.declared.lexeme.Lexeme.{Lexeme}
 use Rattle.lrc_reader.specs.declared.lexeme.Lexeme.TheVariants as l
@@ -23,11 +23,11 @@ use Rattle.lrc_reader.specs.Limits.{sort_limit, attribute_limit, production_limi
 use Rattle.lrc_reader.specs.Grammar as g
 use Rattle.lrc_reader.specs.Grammar.{Name, Items, literal_term, one_of, piece_of, count_of}
 use Rattle.lrc_reader.specs.First.{only, words, naturals, literals, directions, declarations, others, items, pieces, terms, edits}
-use Rattle.lrc_reader.specs.Reading.{Reader, read_kid, read_push_kid, read_more_kids, read_some_kids, read_any_kids, read_kids, read_attr, read_attrs, read_sort, read_local, read_attach, read_declared, read_piece, read_pieces, read_pattern, read_dot_word, read_attribute_of, read_equation, read_undeclared, read_declaration, read_other, read_another_item, read_more_items, read_items, read_prod, read_leaf, read_push_term, read_some_terms, read_more_terms, read_any_terms, read_tree, read_term_over, read_term_at, read_term, read_one_number, read_start, read_sorts, read_prods, read_grammar, read_put, read_copy, read_show, read_count, read_forget, read_edit, read_edits, read_session, read_sessions, read_all}
-use Rattle.lrc_reader.proofs.Tables.{tells_literal, tells_piece, tells_count, among}
+use Rattle.lrc_reader.specs.Reading.{Reader, read_kid, read_push_kid, read_more_kids, read_some_kids, read_any_kids, read_kids, read_attrs, read_sort, read_local, read_attach, read_declared, read_piece, read_pieces, read_pattern, read_dot_word, read_attribute_of, read_equation, read_undeclared, read_declaration, read_other, read_another_item, read_more_items, read_items, read_prod, read_leaf, read_push_term, read_some_terms, read_more_terms, read_any_terms, read_tree, read_term_over, read_term_at, read_term, read_one_number, read_start, read_sorts, read_prods, read_grammar, read_put, read_copy, read_show, read_count, read_forget, read_edit, read_edits, read_session, read_sessions, read_all}
+use Rattle.lrc_reader.proofs.Tables.{tells_literal, tells_piece, tells_count}
 use Rattle.lrc_reader.proofs.Turns.{separated_is, separated_most_is}
 use Rattle.lrc_reader.proofs.Exactly.{then, end, either, one, roomy, begins, mark, word, path, a_kind, attr, kid}
-use Rattle.lrc_reader.proofs.Expressions.{slacker, slack_wide, Room, roomier, wide, expr_shape, chosen, chosen_keeps, chosen_reach, expr}
+use Rattle.lrc_reader.proofs.Expressions.{slacker, slack_wide, Room, roomier, wide, chosen, chosen_keeps, chosen_reach, expr}
 
 -- ---- terms
 

@@ -1,11 +1,10 @@
 -- A text has at most one first fault, and none where it denotes a job.
-use Rattle.std.proofs.Common.{◌≡◌, ◌≢◌, ℕ, suc, zero, ◌+◌, ◌-◌, ◌<◌, ◌≤◌, List, [], ◌∷◌, ◌++◌, length, map, drop, refl, sym, ap, ◌∙◌, subst, arith, ◌⊎◌, inl, inr, length-append, append_assoc}
+use Rattle.std.proofs.Common.{◌≡◌, ℕ, ◌-◌, ◌<◌, ◌≤◌, List, [], ◌∷◌, ◌++◌, length, drop, refl, sym, ap, ◌∙◌, subst, arith, ◌⊎◌, inl, inr, append_assoc}
 use Rattle.std.proofs.lemmas.List.{append-nil, map-append}
 use Rattle.lrc_base.specs.declared.job.Job.{Job}
 use Rattle.lrc_lex.specs.declared.Token.{Token}
-use Rattle.lrc_lex.specs.Tokens.{Tokens}
 use Rattle.lrc_lex.proofs.TokensLemmas.{one_list, one_fault, never_both}
-use Rattle.lrc_parse.specs.Reading.{Cause, nested, limit, stops}
+use Rattle.lrc_parse.specs.Reading.{Cause, nested, stops}
 use Rattle.lrc_parse.specs.Faults.{Begins, Wanting, Passing}
 use Rattle.lrc_parse.proofs.Places.{same_cause, same_left}
 use Rattle.lrc_reader.specs.declared.lexeme.Lexeme.{Lexeme}
@@ -15,7 +14,6 @@ use Rattle.lrc_reader.specs.declared.fault.JobFault.{JobFault}
 use Rattle.lrc_reader.specs.declared.fault.JobFault.TheVariants.{TooLong, Lex, Expected, LimitReached, NestedTooDeep, Memory}
 use Rattle.lrc_reader.specs.Lexeme.{lexeme_of, lexemes}
 use Rattle.lrc_reader.specs.Limits.{number_of, passing}
-use Rattle.lrc_reader.specs.Grammar.{IsJob}
 use Rattle.lrc_reader.specs.Reading.{read_all}
 use Rattle.lrc_reader.specs.Denotes.{Denotes}
 use Rattle.lrc_reader.specs.Faults.{Split, start_of, jobs, Unpassed, IsExpected, PassesNext, IsPassed, FirstTextFault}
@@ -107,15 +105,15 @@ module _ (text : List ℕ) {at to : ℕ} (s : Split text at) (z : Split text to)
   same_at e =
       let n : length s.rest ≡ length z.rest = sym (length_lexemes text s.rest) ∙ (e ∙ length_lexemes text z.rest) in
       let f : s.rest ≡ z.rest =
-          sym (drop_front s.before s.rest) ∙ ap (λ v. drop (length v - length s.rest) v) same_list ∙
-          ap (λ k. drop (length (z.before ++ z.rest) - k) (z.before ++ z.rest)) n ∙ drop_front z.before z.rest in
+      sym (drop_front s.before s.rest) ∙ ap (λ v. drop (length v - length s.rest) v) same_list ∙
+      ap (λ k. drop (length (z.before ++ z.rest) - k) (z.before ++ z.rest)) n ∙ drop_front z.before z.rest in
       s.here ∙ ap (start_of text) f ∙ sym z.here
 
   -- limits that are passed are passed by the same cause at the same place
   same_passed : (c d : Cause) → PassesNext c (lexemes text s.before) (lexemes text s.rest) → PassesNext d (lexemes text z.before) (lexemes text z.rest) → (c ≡ d) × (at ≡ to)
   same_passed c d n m =
       let e : stops c (lexemes text s.rest) ≡ stops d (lexemes text z.rest) =
-          sym (passes_stop c (lexemes text s.before) (lexemes text s.rest) n) ∙ ap (read_all 0) same_lexemes ∙ passes_stop d (lexemes text z.before) (lexemes text z.rest) m in
+      sym (passes_stop c (lexemes text s.before) (lexemes text s.rest) n) ∙ ap (read_all 0) same_lexemes ∙ passes_stop d (lexemes text z.before) (lexemes text z.rest) m in
       (same_cause c d _ _ e, same_at (ap length (same_left c d _ _ e)))
 
 limits_apart : (a b : Limit) → number_of a ≡ number_of b → a ≡ b

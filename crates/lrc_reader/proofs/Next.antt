@@ -6,13 +6,13 @@ use Rattle.lrc_parse.specs.Kinds.{has, starts}
 use Rattle.lrc_parse.specs.Reading.{Cause, Reading, expected, took, stops, on_took, read_one, read_fixed, read_nothing, read_within, token_value}
 use Rattle.lrc_parse.proofs.Steps.{read_within_passed, read_within_other}
 use Rattle.lrc_reader.specs.declared.lexeme.Lexeme.{Lexeme}
-use Rattle.lrc_reader.specs.Lexeme.{kind}
+use Rattle.lrc_reader.specs.Lexeme.{kind, next_kind}
 
-pub starts_next : (ks : List ℕ) (u : List Lexeme) (t : Lexeme) → slice_get u 0 ≡ Some t → starts kind ks u ≡ has ks (kind t)
-starts_next ks [] t e = cc
-starts_next ks (x ∷ u) t e = let f : x ≡ t = cc in cc
+pub starts_next : (ks : List ℕ) (u : List Lexeme) (k : ℕ) → Some k ≡ next_kind u → starts kind ks u ≡ has ks k
+starts_next ks [] k e = cc
+starts_next ks (x ∷ u) k e = let f : k ≡ kind x = cc in ap (has ks) (sym f)
 
-pub starts_end : (ks : List ℕ) (u : List Lexeme) → slice_get u 0 ≡ None → starts kind ks u ≡ false
+pub starts_end : (ks : List ℕ) (u : List Lexeme) → None ≡ next_kind u → starts kind ks u ≡ false
 starts_end ks [] e = refl
 starts_end ks (x ∷ u) e = cc
 

@@ -1,5 +1,5 @@
 -- The turns of each loop: a turn takes a lexeme, so that the loop ends.
-use Rattle.std.proofs.Common.{◌≡◌, ℕ, ◌+◌, ◌<◌, Bool, true, false, ltb, List, [], ◌∷◌, ◌++◌, length, refl, ap, sym, ◌∙◌, arith}
+use Rattle.std.proofs.Common.{◌≡◌, ℕ, ◌<◌, Bool, true, false, ltb, List, [], ◌∷◌, ◌++◌, length, refl, ap, sym, ◌∙◌, arith}
 use Rattle.lrc_base.specs.declared.raw.RawAttr.{RawAttr}
 use Rattle.lrc_base.specs.declared.raw.RawSort.{RawSort}
 use Rattle.lrc_base.specs.declared.raw.RawKid.{RawKid}
@@ -27,7 +27,7 @@ use Rattle.lrc_reader.specs.Lexeme.{kind, number}
 use Rattle.lrc_reader.specs.Limits.{passing}
 use Rattle.lrc_reader.specs.Grammar as g
 use Rattle.lrc_reader.specs.Grammar.{Counted, Items}
-use Rattle.lrc_reader.specs.First.{exprs, only, words, directions, items, times, plus, pieces, terms, edits}
+use Rattle.lrc_reader.specs.First.{exprs, only, words, directions, items, times, plus, pieces, edits}
 use Rattle.lrc_reader.specs.Reading.{Reader, read_room, read_attr, read_push_attr, read_another_attr, read_attrs, read_sort, read_another_sort, read_sorts, read_kid, read_push_kid, read_another_kid, read_more_kids, read_prod, read_another_prod, read_prods, read_piece, read_another_piece, read_pieces, read_another_item, read_more_items, read_expr_at, read_factor, read_factors, read_addend, read_addends, read_argument, read_more_arguments, read_term_at, read_push_term, read_another_term, read_more_terms, read_edit, read_another_edit, read_edits, read_session, read_another_session, read_sessions}
 use Rattle.lrc_reader.proofs.Next.{room_and}
 use Rattle.lrc_reader.proofs.Turns.{loop_turn, loop_stops, others_turn, others_stops, others_most_turn, others_most_stops}

@@ -1,20 +1,19 @@
 -- What reading all lexemes says of a text: its job, or its first fault.
-use Rattle.std.proofs.Common.{◌≡◌, ◌≢◌, true, ℕ, suc, zero, ◌+◌, ◌-◌, ◌<◌, ◌≤◌, List, [], ◌∷◌, ◌++◌, length, map, drop, refl, sym, ap, ◌∙◌, subst, arith, length-append, append_assoc}
+use Rattle.std.proofs.Common.{◌≡◌, ◌≢◌, true, ℕ, suc, ◌+◌, ◌-◌, ◌≤◌, List, [], ◌∷◌, ◌++◌, length, drop, refl, sym, ap, ◌∙◌, subst, arith, length-append, append_assoc}
 use Rattle.std.proofs.lemmas.List.{append-nil, append_cancel_right}
 use Rattle.lrc_base.specs.declared.job.Job.{Job}
 use Rattle.lrc_lex.specs.declared.Token.{Token}
 use Rattle.lrc_lex.specs.Tokens.{Tokens}
 use Rattle.lrc_lex.proofs.TokensLemmas.{one_list}
 use Rattle.lrc_parse.specs.Exact.{Exact}
-use Rattle.lrc_parse.specs.Reading.{Cause, expected, nested, limit, Reading, took, stops}
-use Rattle.lrc_parse.specs.Faults.{Full, Begins, Wanting, Passing, Caused}
+use Rattle.lrc_parse.specs.Reading.{Cause, expected, nested, limit, took, stops}
+use Rattle.lrc_parse.specs.Faults.{Full, Wanting, Passing}
 use Rattle.lrc_parse.proofs.Staged.{Staged, whole}
 use Rattle.lrc_parse.proofs.Whole.{read_whole, one_value, stops_none, rest_none}
 use Rattle.lrc_parse.proofs.Back.{stops_not_took}
 use Rattle.lrc_parse.proofs.Places.{same_left}
 use Rattle.lrc_parse.proofs.Verdict.{stop_place, left_place}
 use Rattle.lrc_reader.specs.declared.lexeme.Lexeme.{Lexeme}
-use Rattle.lrc_reader.specs.declared.fault.Limit.{Limit}
 use Rattle.lrc_reader.specs.declared.fault.JobFault.{JobFault}
 use Rattle.lrc_reader.specs.declared.fault.JobFault.TheVariants as fault
 use Rattle.lrc_reader.specs.declared.fault.Stop.{Stop}

@@ -1,5 +1,5 @@
 -- The grammar of a job within its limits: which lexemes stand for which job, and which lexeme would pass a limit.
-use Rattle.std.specs.Prelude.{ℕ, zero, suc, ℤ, ◌+◌, nat_lt, pos, Bool, true, false, if◌then◌else◌, unsigned_abs, Option, Some, None, List, [], ◌∷◌, ◌++◌}
+use Rattle.std.specs.Prelude.{ℕ, ℤ, ◌+◌, nat_lt, pos, Bool, true, false, if◌then◌else◌, unsigned_abs, Option, Some, None, List, [], ◌∷◌, ◌++◌}
 use Rattle.std.specs.Ordering.{int_eq}
 use Rattle.lrc_base.specs.declared.expr.Op.{Op}
 use Rattle.lrc_base.specs.declared.expr.Op.TheVariants as op

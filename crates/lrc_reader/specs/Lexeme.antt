@@ -1,5 +1,5 @@
 -- What the reader sees of a token.
-use Rattle.std.specs.Prelude.{ℕ, ℤ, pos, neg_ℤ, List, [], ◌∷◌, map, drop, slice_range, Option, Some, None, if◌then◌else◌, codes}
+use Rattle.std.specs.Prelude.{ℕ, pos, neg_ℤ, List, [], ◌∷◌, map, drop, slice_range, Option, Some, None, if◌then◌else◌, codes}
 use Rattle.std.specs.Str.{bytes_eq}
 use Rattle.lrc_lex.specs.declared.Token.{Token}
 use Rattle.lrc_lex.specs.declared.TokenClass.{TokenClass}
@@ -167,3 +167,8 @@ word_of _ = None
 abbrev pub path_of : Lexeme → Option Path
 path_of (l.Path path) = Some path
 path_of _ = None
+
+-- the kind of the next of some lexemes
+abbrev pub next_kind : List Lexeme → Option ℕ
+next_kind [] = None
+next_kind (lexeme ∷ lexemes) = Some (kind lexeme)

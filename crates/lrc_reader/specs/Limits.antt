@@ -1,5 +1,5 @@
 -- The limits of jobs. Each may be widened by the same number, its slack, which is 0 for the limits themselves.
-use Rattle.std.specs.Prelude.{◌≡◌, ℕ, ◌+◌}
+use Rattle.std.specs.Prelude.{ℕ, ◌+◌}
 use Rattle.lrc_parse.specs.Reading.{Cause, limit}
 use Rattle.lrc_reader.specs.declared.fault.Limit.{Limit}
 use Rattle.lrc_reader.specs.declared.fault.Limit.TheVariants.{Sorts, Attributes, Productions, Children, Locals, Nodes, Sessions, Edits}

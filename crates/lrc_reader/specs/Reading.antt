@@ -1,5 +1,5 @@
 -- What each part of the grammar reads at the head of some lexemes.
-use Rattle.std.specs.Prelude.{ℕ, zero, suc, ◌+◌, nat_lt, Bool, true, false, Option, List, [], ◌∷◌, ◌++◌, length}
+use Rattle.std.specs.Prelude.{ℕ, ◌+◌, nat_lt, Bool, true, false, Option, List, [], ◌∷◌, ◌++◌, length}
 use Rattle.lrc_base.specs.declared.expr.Op.{Op}
 use Rattle.lrc_base.specs.declared.raw.RawKind.{RawKind}
 use Rattle.lrc_base.specs.declared.raw.RawKind.TheVariants as k
@@ -28,7 +28,7 @@ use Rattle.lrc_reader.specs.declared.fault.Limit.{Limit}
 use Rattle.lrc_reader.specs.declared.fault.Limit.TheVariants.{Sorts, Attributes, Productions, Children, Locals, Nodes, Sessions, Edits}
 use Rattle.lrc_reader.specs.Lexeme.{kind, number, word_of, path_of}
 use Rattle.lrc_reader.specs.Limits.{sort_limit, attribute_limit, production_limit, child_limit, local_limit, node_limit, session_limit, edit_limit, level_limit, passing}
-use Rattle.lrc_reader.specs.First.{only, words, naturals, paths, literals, directions, kinds, times, plus, comparisons, atoms, exprs, declarations, others, items, pieces, terms, edits}
+use Rattle.lrc_reader.specs.First.{only, words, literals, directions, times, plus, comparisons, exprs, declarations, items, pieces, terms, edits}
 use Rattle.lrc_reader.specs.Grammar.{Name, attr_of, sort_of, kid_of, Counted, literal_expr, times_of, plus_of, comparison_of, piece_of, equation_of, Items, prod_of, literal_term, one_of, grammar_of, count_of, script_of, job_of}
 
 abbrev pub Reader : Type 0 → Type 0

@@ -10,7 +10,7 @@ ghost use Rattle.lrc_reader.specs.Reading as reading;
 ghost use Rattle.lrc_reader.specs.Gives.{Gives};
 
 use crate::fault::{Limit, Stop};
-use crate::lexeme::{Lexeme, Mark, kind_of, lexeme_of, number_of};
+use crate::lexeme::{Lexeme, Mark, kind_at, lexeme_of, number_of};
 use lrc_base::{NameText, Path};
 use lrc_lex::Token;
 use std::alloc::Global;
@@ -21,6 +21,8 @@ use std::marker::Model;
 pub struct Cursor<'a> {
     text: &'a [u8],
     tokens: &'a [Token],
+    /// The kind of the first of them.
+    next: Option<u8>,
 }
 
 impl<'a> Model for Cursor<'a> {
@@ -30,11 +32,23 @@ impl<'a> Model for Cursor<'a> {
 
     ghost Value = { List Lexeme };
 
-    ghost use Rattle.lrc_reader.specs.Lexeme.{lexemes};
+    ghost use Rattle.std.specs.Prelude.{◌≡◌};
+    ghost use Rattle.lrc_reader.specs.Lexeme.{lexemes, next_kind};
 
     ghost view = { λ c. lexemes c.text.now c.tokens.now };
 
-    ghost invariant = { λ c. All (IsTokenOf c.text.now) c.tokens.now };
+    ghost invariant = { λ c. All (IsTokenOf c.text.now) c.tokens.now × (c.next ≡ next_kind (lexemes c.text.now c.tokens.now)) };
+}
+
+/// The kind of the first of these tokens.
+fn first_kind(text: &[u8], tokens: &[Token]) -> Option<u8>
+    requires { All (IsTokenOf text.now) tokens.now }
+    ensures { result ≡ spec.next_kind (spec.lexemes text.now tokens.now) }
+{
+    match tokens {
+        [first, ..] => Some(kind_at(text, *first)),
+        [] => None,
+    }
 }
 
 /// Whether the set has the kind.
@@ -57,7 +71,11 @@ impl<'a> Cursor<'a> {
         requires { All (IsTokenOf text.now) tokens.now }
         ensures { result ≡ spec.lexemes text.now tokens.now }
     {
-        Cursor { text, tokens }
+        Cursor {
+            text,
+            tokens,
+            next: first_kind(text, tokens),
+        }
     }
 
     /// The next lexeme, which stays; None at the end.
@@ -74,6 +92,7 @@ impl<'a> Cursor<'a> {
     {
         if let [_, rest @ ..] = self.tokens {
             self.tokens = rest;
+            self.next = first_kind(self.text, rest);
         }
     }
 
@@ -89,8 +108,8 @@ impl<'a> Cursor<'a> {
     pub fn sees_one_of(&self, kinds: &[u8]) -> bool
         ensures { result ≡ starts kind kinds.now self.now }
     {
-        match self.peek() {
-            Some(lexeme) => has(kinds, kind_of(&lexeme)),
+        match self.next {
+            Some(kind) => has(kinds, kind),
             None => false,
         }
     }

@@ -209,19 +209,26 @@ pub fn number_of(mark: Mark) -> u8
     mark as u8 + MARK_KIND
 }
 
-/// What a grammar tells lexemes by.
-pub fn kind_of(lexeme: &Lexeme<'_>) -> u8
-    ensures { result ≡ spec.kind lexeme.now }
+/// The kind of what the reader sees of a token of this text.
+#[tactic(auto, unfolding(crate::specs::Lexeme::seen))]
+pub fn kind_at(text: &[u8], token: Token) -> u8
+    requires { IsTokenOf text.now token }
+    ensures { result ≡ spec.kind (spec.lexeme_of text.now token) }
 {
-    match lexeme {
-        Lexeme::Word(_) => WORD_KIND,
-        Lexeme::Natural(_) => NATURAL_KIND,
-        Lexeme::Negative(_) => NEGATIVE_KIND,
-        Lexeme::Name(_) => NAME_KIND,
-        Lexeme::Text(_) => TEXT_KIND,
-        Lexeme::Path(_) => PATH_KIND,
-        Lexeme::Other => OTHER_KIND,
-        Lexeme::Mark(mark) => number_of(*mark),
+    match token.class {
+        TokenClass::Word => match mark_of(&text[token.at as usize..token.end as usize]) {
+            Some(mark) => number_of(mark),
+            None => WORD_KIND,
+        },
+        TokenClass::Symbol => match mark_of(&text[token.at as usize..token.end as usize]) {
+            Some(mark) => number_of(mark),
+            None => OTHER_KIND,
+        },
+        TokenClass::Natural => NATURAL_KIND,
+        TokenClass::Negative => NEGATIVE_KIND,
+        TokenClass::NameLit => NAME_KIND,
+        TokenClass::Text => TEXT_KIND,
+        TokenClass::Path => PATH_KIND,
     }
 }
 

@@ -107,12 +107,11 @@ fn the_whole_notation_is_read(rt: HostRuntime) -> Result<(), Fail> {
     Ok(())
 }
 
-/// A text whose middle part is opened and closed a number of times.
+/// A text with a part that is opened and closed a number of times.
 #[derive(Drop)]
 struct Shape {
     before: &'static [u8],
     open: &'static [u8],
-    middle: &'static [u8],
     close: &'static [u8],
     after: &'static [u8],
 }
@@ -124,12 +123,24 @@ impl Shape {
         for _ in 0..times {
             text.extend_from_slice(self.open)?;
         }
-        text.extend_from_slice(self.middle)?;
+        if !self.close.is_empty() {
+            text.extend_from_slice(b"1")?;
+        }
         for _ in 0..times {
             text.extend_from_slice(self.close)?;
         }
         text.extend_from_slice(self.after)?;
         Ok(text)
+    }
+}
+
+fn repeated(before: &'static [u8], open: &'static [u8], after: &'static [u8]) -> Shape {
+    let close = b"".as_slice();
+    Shape {
+        before,
+        open,
+        close,
+        after,
     }
 }
 
@@ -152,158 +163,102 @@ fn assert_limit(
 fn each_limit_is_reached_at_its_token(rt: HostRuntime) -> Result<(), Fail> {
     let limits = [
         (
-            Shape {
-                before: b"lrc 1 ",
-                open: b"sort A { } ",
-                middle: b"",
-                close: b"",
-                after: b"start A;",
-            },
+            repeated(b"lrc 1 ", b"sort A { } ", b"start A;"),
             64,
-            JobFault::LimitReached {
-                at: 710,
-                limit: Limit::Sorts,
-            },
+            710,
+            Limit::Sorts,
         ),
         (
-            Shape {
-                before: b"lrc 1 sort A { ",
-                open: b"inh a: Bool; ",
-                middle: b"",
-                close: b"",
-                after: b"} start A;",
-            },
+            repeated(b"lrc 1 sort A { ", b"inh a: Bool; ", b"} start A;"),
             16,
-            JobFault::LimitReached {
-                at: 223,
-                limit: Limit::Attributes,
-            },
+            223,
+            Limit::Attributes,
         ),
         (
-            Shape {
-                before: b"lrc 1 ",
-                open: b"prod P: A () { } ",
-                middle: b"",
-                close: b"",
-                after: b"start A;",
-            },
+            repeated(b"lrc 1 ", b"prod P: A () { } ", b"start A;"),
             256,
-            JobFault::LimitReached {
-                at: 4358,
-                limit: Limit::Productions,
-            },
+            4358,
+            Limit::Productions,
         ),
         (
-            Shape {
-                before: b"lrc 1 prod P: A (k: Int",
-                open: b", k: Int",
-                middle: b"",
-                close: b"",
-                after: b") { } start A;",
-            },
+            repeated(b"lrc 1 prod P: A (k: Int", b", k: Int", b") { } start A;"),
             7,
-            JobFault::LimitReached {
-                at: 81,
-                limit: Limit::Children,
-            },
+            81,
+            Limit::Children,
         ),
         (
-            Shape {
-                before: b"lrc 1 prod P: A () { ",
-                open: b"attach l: A = 1; ",
-                middle: b"",
-                close: b"",
-                after: b"} start A;",
-            },
+            repeated(
+                b"lrc 1 prod P: A () { ",
+                b"attach l: A = 1; ",
+                b"} start A;",
+            ),
             16,
-            JobFault::LimitReached {
-                at: 293,
-                limit: Limit::Locals,
-            },
+            293,
+            Limit::Locals,
         ),
         (
-            Shape {
-                before: b"lrc 1 prod P: A () { a = 1",
-                open: b" + 1",
-                middle: b"",
-                close: b"",
-                after: b"; } start A;",
-            },
+            repeated(b"lrc 1 prod P: A () { a = 1", b" + 1", b"; } start A;"),
             499,
-            JobFault::LimitReached {
-                at: 2025,
-                limit: Limit::Nodes,
-            },
+            2025,
+            Limit::Nodes,
         ),
         (
-            Shape {
-                before: b"lrc 1 prod P: A () { a = f(1)",
-                open: b" + 1",
-                middle: b"",
-                close: b"",
-                after: b"; } start A;",
-            },
+            repeated(b"lrc 1 prod P: A () { a = f(1)", b" + 1", b"; } start A;"),
             499,
-            JobFault::LimitReached {
-                at: 2026,
-                limit: Limit::Nodes,
-            },
+            2026,
+            Limit::Nodes,
         ),
         (
-            Shape {
-                before: b"lrc 1 start A; ",
-                open: b"session on 'x { } ",
-                middle: b"",
-                close: b"",
-                after: b"",
-            },
+            repeated(b"lrc 1 start A; ", b"session on 'x { } ", b""),
             64,
-            JobFault::LimitReached {
-                at: 1167,
-                limit: Limit::Sessions,
-            },
+            1167,
+            Limit::Sessions,
         ),
         (
-            Shape {
-                before: b"lrc 1 start A; session on true { ",
-                open: b"show; ",
-                middle: b"",
-                close: b"",
-                after: b"}",
-            },
+            repeated(b"lrc 1 start A; session on true { ", b"show; ", b"}"),
             10000,
-            JobFault::LimitReached {
-                at: 60033,
-                limit: Limit::Edits,
-            },
-        ),
-        (
-            Shape {
-                before: b"lrc 1 prod P: A () { a = ",
-                open: b"(",
-                middle: b"1",
-                close: b")",
-                after: b"; } start A;",
-            },
-            999,
-            JobFault::NestedTooDeep { at: 1025 },
-        ),
-        (
-            Shape {
-                before: b"lrc 1 start A; session on ",
-                open: b"P(",
-                middle: b"1",
-                close: b")",
-                after: b" { }",
-            },
-            999,
-            JobFault::NestedTooDeep { at: 2026 },
+            60033,
+            Limit::Edits,
         ),
     ];
-    for (shape, most, fault) in &limits {
-        assert_limit(&rt, rt.alloc(), shape, *most, *fault)?;
+    for (shape, most, at, limit) in &limits {
+        let fault = JobFault::LimitReached {
+            at: *at,
+            limit: *limit,
+        };
+        assert_limit(&rt, rt.alloc(), shape, *most, fault)?;
     }
     Ok(())
+}
+
+#[test]
+fn what_is_nested_too_deep_is_told(rt: HostRuntime) -> Result<(), Fail> {
+    let brackets = Shape {
+        before: b"lrc 1 prod P: A () { a = ",
+        open: b"(",
+        close: b")",
+        after: b"; } start A;",
+    };
+    assert_limit(
+        &rt,
+        rt.alloc(),
+        &brackets,
+        999,
+        JobFault::NestedTooDeep { at: 1025 },
+    )?;
+    let trees = Shape {
+        before: b"lrc 1 start A; session on ",
+        open: b"P(",
+        close: b")",
+        after: b" { }",
+    };
+    assert_limit(
+        &rt,
+        rt.alloc(),
+        &trees,
+        999,
+        JobFault::NestedTooDeep { at: 2026 },
+    )
 }
 
 #[test]
