@@ -31,10 +31,6 @@ module _ {T A : Type 0} where
   inner_to body zero u x m = m
   inner_to body (suc n) u x m = m
 
-  inner_from : (body : Lang T A → Lang T A) (n : ℕ) → Sub (Nested body n) (body (inner body n))
-  inner_from body zero u x m = m
-  inner_from body (suc n) u x m = m
-
 module _ {T A : Type 0} (kind : T → ℕ) where
   abbrev pub read_inner : ((List T → Reading T A) → List T → Reading T A) → List ℕ → ℕ → List T → Reading T A
   read_inner body first zero u = read_nothing kind first nested u

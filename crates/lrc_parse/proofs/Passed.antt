@@ -83,11 +83,6 @@ module _ {T : Type 0} (kind : T → ℕ) where
       go c u r n (inl h) = e.reached c u r n h
       go c u r n (inr h) = absurd (stops_not_took c (f h.0) r h.1 (sym h.3))
 
-  -- the head of what comes up to a limit is a first kind
-  head_there : (ks : List ℕ) (p : List T) (t : T) (q r : List T) → starts kind ks (p ++ t ∷ q) ≡ true → starts kind ks (p ++ t ∷ r) ≡ true
-  head_there ks [] t q r h = h
-  head_there ks (v ∷ p) t q r h = h
-
   -- and so no kind of a set without first kinds
   head_apart : (js ks : List ℕ) (p : List T) (t : T) (q : List T) → disjoint js ks ≡ true → starts kind ks (p ++ t ∷ q) ≡ true → starts kind js (p ++ t ∷ q) ≡ false
   head_apart js ks [] t q d h = apart js ks (kind t) d h

@@ -126,9 +126,6 @@ module _ {T : Type 0} (kind : T → ℕ) where
   pub skip_to : {A : Type 0} (k : ℕ) (L : Lang T A) (u : List T) (x : A) → Given (Fixed kind k) (λ _. L) u x → Skip kind k L u x
   skip_to k L u x m = (m.4.0, m.1, m.3 ∙ ap (λ p. p ++ m.1) m.4.1, m.4.2, m.5)
 
-  pub skip_from : {A : Type 0} (k : ℕ) (L : Lang T A) (u : List T) (x : A) → Skip kind k L u x → Given (Fixed kind k) (λ _. L) u x
-  skip_from k L u x m = (m.0 ∷ [], m.1, tt, m.2, (m.0, refl, m.3), m.4)
-
   pub skip_same : {A : Type 0} (k : ℕ) (a : List T → Reading T A) (u : List T) → read_skip kind k a u ≡ read_given (read_fixed kind k) (λ _. a) u
   unfolding read_skip read_given read_fixed
   skip_same k a [] = refl

@@ -1,17 +1,16 @@
 -- Each combinator's reading before a token that begins no sentence, and that a sentence begins with each token that may be the first.
-use Rattle.std.proofs.Common.{◌≡◌, ℕ, zero, suc, ◌+◌, ◌<◌, ◌≤◌, eqb, ltb, Bool, true, false, cond, Option, Some, None, List, [], ◌∷◌, ◌++◌, length, refl, sym, ap, ◌∙◌, subst, ◌⊎◌, inl, inr, arith}
+use Rattle.std.proofs.Common.{◌≡◌, ℕ, zero, suc, eqb, Bool, true, false, cond, Option, Some, None, List, [], ◌∷◌, ◌++◌, refl, sym, ap, ◌∙◌, subst, ◌⊎◌, inl, inr}
 use Rattle.std.proofs.lemmas.List.{append-nil}
 use Rattle.std.proofs.lemmas.Bool.{eq-eqb, eqb-true}
 use Rattle.lrc_parse.specs.Kinds.{has, starts}
-use Rattle.lrc_parse.specs.Language.{Lang, Empty, One, Of, Then, Given, Either, Optional, Within, Many, Most, Chain, Folded, Loop, Fixed, Skip, Ends, Separated}
-use Rattle.lrc_parse.specs.Reading.{Cause, expected, Reading, took, stops, read_empty, read_one, read_of, read_then, read_given, read_fixed, read_skip, read_ends, read_either, read_optional, read_nothing, read_within, read_loop, read_many, read_most, read_separated, read_separated_most, read_folded_most, read_chain}
-use Rattle.lrc_parse.specs.Exact.{Shape, shape_one, shape_empty, shape_then, shape_either, shape_skip, shape_ends, shape_many}
-use Rattle.lrc_parse.specs.Faults.{Widening, Begins, Grows, Tame, Rich, Limit}
+use Rattle.lrc_parse.specs.Language.{Lang, Empty, One, Of, Given, Either, Within, Chain, Loop, Fixed, Skip, Ends}
+use Rattle.lrc_parse.specs.Reading.{Cause, expected, Reading, took, stops, read_empty, read_one, read_of, read_given, read_fixed, read_skip, read_either, read_nothing, read_within, read_loop, read_chain}
+use Rattle.lrc_parse.specs.Exact.{Shape, shape_one, shape_empty, shape_then, shape_either, shape_skip, shape_many}
+use Rattle.lrc_parse.specs.Faults.{Widening, Begins, Grows, Tame, Rich}
 use Rattle.lrc_parse.proofs.Sets.{true_not_false, has_cases, clear_left, clear_right}
 use Rattle.lrc_parse.proofs.Steps.{read_one_end, read_one_stops, read_skip_end, read_skip_stops, read_of_took, read_of_stops, read_given_took, read_given_stops, read_either_second, read_nothing_other, read_within_room, read_within_other}
 use Rattle.lrc_parse.proofs.Loops.{read_loop_end}
-use Rattle.lrc_parse.proofs.Same.{pushed, then_same, fixed_same, ends_same, many_same, most_same, separated_same, separated_most_same, folded_most_same, chain_same, then_to, fixed_to, ends_to, kind_value, then_parts, ends_parts}
-use Rattle.lrc_parse.proofs.Grow.{sub_many, sub_separated}
+use Rattle.lrc_parse.proofs.Same.{fixed_same, chain_same, fixed_to, kind_value}
 
 head_of_one : {T : Type 0} (t s : T) → t ∷ [] ≡ s ∷ [] → t ≡ s
 head_of_one t s e = cc
@@ -124,12 +123,6 @@ module _ {T : Type 0} (kind : T → ℕ) where
           let w : Fixed kind k (t ∷ []) x = fixed_to kind k (t ∷ []) x (t, refl, h) in
           kind_among k t (ap kind (head_of_one t w.0 w.1) ∙ w.2)
 
-  pub tame_then : {A B : Type 0} (s t : Shape) (a : List T → Reading T A) (b : List T → Reading T B) → Tame kind s a → Tame kind t b →
-      Tame kind (shape_then s t) (read_then a b)
-  tame_then s t a b e f =
-      tame_as (shape_then s t) (read_given a (λ x. read_of (λ y. (x, y)) b)) (read_then a b)
-      (tame_given s t a (λ x. read_of (λ y. (x, y)) b) e (λ x. tame_of (λ y. (x, y)) t b f)) (then_same a b)
-
   pub tame_skip : {A : Type 0} (k : ℕ) (s : Shape) (a : List T → Reading T A) → Tame kind (shape_skip k s) (read_skip kind k a)
   tame_skip {A} k s a = record { misses = λ n u h. go u h; passes = λ n. absurd (true_not_false false n refl) }
     where
@@ -137,59 +130,11 @@ module _ {T : Type 0} (kind : T → ℕ) where
       go [] h = read_skip_end kind k a
       go (t ∷ r) h = read_skip_stops kind k a t r (λ e. true_not_false _ (kind_among k t e) h)
 
-  pub tame_ends : {A : Type 0} (s : Shape) (a : List T → Reading T A) (k : ℕ) → Tame kind s a → Tame kind (shape_ends s k) (read_ends kind a k)
-  tame_ends s a k e =
-      tame_as (shape_ends s k) (read_given a (λ x. read_of (λ _. x) (read_fixed kind k))) (read_ends kind a k)
-      (tame_given s (shape_one (k ∷ [])) a (λ x. read_of (λ _. x) (read_fixed kind k)) e (λ x. tame_of (λ _. x) (shape_one (k ∷ [])) (read_fixed kind k) (tame_fixed k)))
-      (ends_same kind a k)
-
-  pub tame_optional : {A : Type 0} (s : Shape) (a : List T → Reading T A) → Tame kind (shape_either s shape_empty) (read_optional kind s.first a)
-  unfolding read_optional
-  tame_optional s a =
-      tame_as (shape_either s shape_empty) (read_either kind s.first (read_of Some a) (read_empty None)) (read_optional kind s.first a)
-      (tame_either s shape_empty (read_of Some a) (read_empty None) (tame_empty None)) (λ u. refl)
-
-  pub tame_many : {A : Type 0} (s : Shape) (a : List T → Reading T A) → Tame kind (shape_many s) (read_many kind s.first a [])
-  tame_many s a = tame_as (shape_many s) _ (read_many kind s.first a []) (tame_loop s (λ ys. read_of (pushed ys) a) []) (many_same kind s.first a)
-
-  pub tame_most : {A : Type 0} (n : ℕ) (s : Shape) (c : Cause) (a : List T → Reading T A) → Tame kind (shape_many s) (read_most kind n s.first c a [])
-  tame_most n s c a =
-      tame_as (shape_many s) _ (read_most kind n s.first c a []) (tame_loop s (λ ys. read_within kind (ltb (length ys) n) s.first c (read_of (pushed ys) a)) []) (most_same kind n s.first c a)
-
   pub tame_chain : {A X : Type 0} (f : A → X → A) (s t : Shape) (a : List T → Reading T A) (b : List T → Reading T X) → Tame kind s a →
       Tame kind (shape_then s (shape_many t)) (read_chain kind f a t.first b)
   tame_chain f s t a b e =
       tame_as (shape_then s (shape_many t)) _ (read_chain kind f a t.first b)
       (tame_given s (shape_many t) a (λ x. read_loop kind t.first (λ y. read_of (f y) b) x) e (λ x. tame_loop t (λ y. read_of (f y) b) x)) (chain_same kind f a t.first b)
-
-  pub tame_separated : {A : Type 0} (k : ℕ) (s : Shape) (a : List T → Reading T A) → Tame kind s a →
-      Tame kind (shape_then s (shape_many (shape_skip k s))) (read_separated kind k a)
-  tame_separated k s a e =
-      tame_as (shape_then s (shape_many (shape_skip k s))) _ (read_separated kind k a)
-      (tame_given s (shape_many (shape_skip k s)) a (λ x. read_loop kind (k ∷ []) (λ ys. read_skip kind k (read_of (pushed ys) a)) (x ∷ [])) e
-      (λ x. tame_loop (shape_skip k s) (λ ys. read_skip kind k (read_of (pushed ys) a)) (x ∷ []))) (separated_same kind k a)
-
-  pub tame_separated_most : {A : Type 0} (k n : ℕ) (s : Shape) (c : Cause) (a : List T → Reading T A) → Tame kind s a →
-      Tame kind (shape_then s (shape_many (shape_skip k s))) (read_separated_most kind k n s.first c a)
-  tame_separated_most k n s c a e =
-      tame_as (shape_then s (shape_many (shape_skip k s))) _ (read_separated_most kind k n s.first c a)
-      (tame_given s (shape_many (shape_skip k s)) a (λ x. read_loop kind (k ∷ []) (λ ys. read_skip kind k (read_within kind (ltb (length ys) n) s.first c (read_of (pushed ys) a))) (x ∷ [])) e
-      (λ x. tame_loop (shape_skip k s) (λ ys. read_skip kind k (read_within kind (ltb (length ys) n) s.first c (read_of (pushed ys) a))) (x ∷ []))) (separated_most_same kind k n s.first c a)
-
-  pub tame_folded_most : {A : Type 0} (k n : ℕ) (s : Shape) (c : Cause) (f : A → A → A) (a : List T → Reading T A) → Tame kind s a →
-      Tame kind (shape_then s (shape_many (shape_skip k s))) (read_folded_most kind k n s.first c f a)
-  tame_folded_most {A} k n s c f a e =
-      tame_as (shape_then s (shape_many (shape_skip k s))) _ (read_folded_most kind k n s.first c f a)
-      (tame_given s (shape_many (shape_skip k s)) a (λ x. read_of (λ (z : A × ℕ). z.0) (read_loop kind (k ∷ []) reads (x, 1))) e
-      (λ x. tame_of (λ (z : A × ℕ). z.0) (shape_many (shape_skip k s)) (read_loop kind (k ∷ []) reads (x, 1)) (tame_loop (shape_skip k s) reads (x, 1))))
-      (folded_most_same kind k n s.first c f a)
-    where
-      reads : A × ℕ → List T → Reading T (A × ℕ)
-      reads z = read_skip kind k (read_within kind (ltb z.1 n) s.first c (read_of (λ y. (f z.0 y, z.1 + 1)) a))
-
-  -- one item is a list of items
-  one_separated : {A : Type 0} (k : ℕ) (L : Lang T A) (u : List T) (x : A) → L u x → Separated kind k L u (x ∷ [])
-  one_separated k L u x m = (u, [], sym (append-nil u), m, refl)
 
 module _ {I T : Type 0} (kind : T → ℕ) where
   pub rich_as : {A : Type 0} (s : Shape) (L M : I → Lang T A) → Rich kind s L → ((i : I) (u : List T) (x : A) → L i u x → M i u x) → Rich kind s M
@@ -249,9 +194,6 @@ module _ {I T : Type 0} (kind : T → ℕ) where
       go v (inl h) = let w : Begins L (v ∷ []) = e.opens v h in (w.0, w.1, w.2, inl w.3)
       go v (inr h) = let w : Begins M (v ∷ []) = f.opens v h in (w.0, w.1, w.2, inr w.3)
 
-  pub rich_optional : {A : Type 0} (s : Shape) (L : I → Lang T A) → Rich kind s L → Rich kind (shape_either s shape_empty) (λ j. Optional (L j))
-  rich_optional s L e = rich_either s shape_empty (λ j. Of Some (L j)) (λ _. Empty None) (rich_of Some s L e) (rich_empty None e.some.0)
-
   pub rich_loop : {S : Type 0} (s : Shape) (step : S → I → Lang T S) → ((z : S) → Rich kind s (step z)) → (z : S) →
       Rich kind (shape_many s) (λ j. Loop (λ x. step x j) z)
   rich_loop s step e z = record {
@@ -259,22 +201,6 @@ module _ {I T : Type 0} (kind : T → ℕ) where
     nothing = λ n. ((e z).some.0, z, (zero, (refl, refl)));
     opens = λ t h. let w : _ = (e z).opens t h in
         (w.0, w.1, w.2, (suc zero, (t ∷ w.1, [], w.2, sym (append-nil (t ∷ w.1)), w.3, (refl, refl))));
-  }
-
-  pub rich_many : {A : Type 0} (s : Shape) (L : I → Lang T A) → Rich kind s L → Rich kind (shape_many s) (λ j. Many (L j))
-  rich_many s L e = record {
-    some = (e.some.0, [], [], refl);
-    nothing = λ n. (e.some.0, [], refl);
-    opens = λ t h. let w : _ = e.opens t h in (w.0, w.1, w.2 ∷ [], (t ∷ w.1, [], sym (append-nil (t ∷ w.1)), w.3, refl));
-  }
-
-  pub rich_separated : {A : Type 0} (k : ℕ) (s : Shape) (L : I → Lang T A) → s.empty ≡ false → Rich kind s L →
-      Rich kind (shape_then s (shape_many (shape_skip k s))) (λ j. Separated kind k (L j))
-  rich_separated k s L n e = record {
-    some = (e.some.0, e.some.1, e.some.2 ∷ [], one_separated kind k (L e.some.0) e.some.1 e.some.2 e.some.3);
-    nothing = λ h. absurd (not_empty s true n h);
-    opens = λ t h. let w : _ = e.opens t (plain_first s (k ∷ []) (kind t) n h) in
-        (w.0, w.1, w.2 ∷ [], one_separated kind k (L w.0) (t ∷ w.1) w.2 w.3);
   }
 
   pub rich_chain : {A X : Type 0} (f : A → X → A) (s t : Shape) (L : I → Lang T A) (M : I → Lang T X) → s.empty ≡ false → Rich kind s L →
@@ -292,20 +218,11 @@ module _ {I T : Type 0} (kind : T → ℕ) where
   pub some_of : {A B : Type 0} (f : A → B) (L : I → Lang T A) → Begins L [] → Begins (λ j. Of f (L j)) []
   some_of f L b = (b.0, b.1, f b.2, (b.2, b.3, refl))
 
-  pub some_skip : {A : Type 0} (k : ℕ) (L : I → Lang T A) (t : T) → kind t ≡ k → Begins L [] → Begins (λ j. Skip kind k (L j)) []
-  some_skip k L t e b = (b.0, t ∷ b.1, b.2, (t, b.1, refl, e, b.3))
-
   pub some_ends : {A : Type 0} (L : I → Lang T A) (k : ℕ) (t : T) → kind t ≡ k → Begins L [] → Begins (λ j. Ends kind (L j) k) []
   some_ends L k t e b = (b.0, b.1 ++ t ∷ [], b.2, (b.1, t, refl, b.3, e))
 
   pub some_left : {A : Type 0} (L M : I → Lang T A) → Begins L [] → Begins (λ j. Either (L j) (M j)) []
   some_left L M b = (b.0, b.1, b.2, inl b.3)
-
-  pub some_right : {A : Type 0} (L M : I → Lang T A) → Begins M [] → Begins (λ j. Either (L j) (M j)) []
-  some_right L M b = (b.0, b.1, b.2, inr b.3)
-
-  pub some_many : {A : Type 0} (L : I → Lang T A) → I → Begins (λ j. Many (L j)) []
-  some_many L i = (i, [], [], refl)
 
 module _ {I T : Type 0} (kind : T → ℕ) (le : I → I → Type 0) (wide : Widening le) where
   pub some_given : {A B : Type 0} (L : I → Lang T A) (M : A → I → Lang T B) → Grows le L → ((x : A) → Grows le (M x)) →
@@ -314,11 +231,6 @@ module _ {I T : Type 0} (kind : T → ℕ) (le : I → I → Type 0) (wide : Wid
       let c : Begins (M b.2) [] = d b.2 in
       let k : _ = wide.upper b.0 c.0 in
       (k.0, b.1 ++ c.1, c.2, (b.1, c.1, b.2, refl, gl _ _ k.1 _ _ b.3, gm b.2 _ _ k.2 _ _ c.3))
-
-  pub some_then : {A B : Type 0} (L : I → Lang T A) (M : I → Lang T B) → Grows le L → Grows le M → Begins L [] → Begins M [] → Begins (λ j. Then (L j) (M j)) []
-  some_then L M gl gm b c =
-      let k : _ = wide.upper b.0 c.0 in
-      (k.0, b.1 ++ c.1, (b.2, c.2), (b.1, c.1, refl, gl _ _ k.1 _ _ b.3, gm _ _ k.2 _ _ c.3))
 
   pub rich_given : {A B : Type 0} (s t : Shape) (L : I → Lang T A) (M : A → I → Lang T B) → Grows le L → ((x : A) → Grows le (M x)) → Rich kind s L →
       ((x : A) → Begins (M x) []) → (s.empty ≡ true → (x : A) → Rich kind t (M x)) → Rich kind (shape_then s t) (λ j. Given (L j) (λ x. M x j))
@@ -358,24 +270,6 @@ module _ {I T : Type 0} (kind : T → ℕ) (le : I → I → Type 0) (wide : Wid
       opens true g v h = cases g v (has_cases s.first t.first (kind v) (subst (λ z. has (cond z (s.first ++ t.first) s.first) (kind v) ≡ true) g h))
       opens false g v h = opens_first v (subst (λ z. has (cond z (s.first ++ t.first) s.first) (kind v) ≡ true) g h)
 
-  pub rich_then : {A B : Type 0} (s t : Shape) (L : I → Lang T A) (M : I → Lang T B) → Grows le L → Grows le M → Rich kind s L →
-      Begins M [] → (s.empty ≡ true → Rich kind t M) → Rich kind (shape_then s t) (λ j. Then (L j) (M j))
-  rich_then s t L M gl gm e some f =
-      rich_as kind (shape_then s t) (λ j. then_parts (L j) (M j)) (λ j. Then (L j) (M j))
-      (rich_given s t L (λ x j. Of (λ y. (x, y)) (M j)) gl (λ x i j l u z m. (m.0, gm i j l u m.0 m.1, m.2)) e
-      (λ x. some_of kind (λ y. (x, y)) M some) (λ g x. rich_of kind (λ y. (x, y)) t M (f g))) (λ i. then_to (L i) (M i))
-
-  pub rich_ends : {A : Type 0} (s : Shape) (L : I → Lang T A) (k : ℕ) (t : T) → kind t ≡ k → Grows le L → Rich kind s L →
-      Rich kind (shape_ends s k) (λ j. Ends kind (L j) k)
-  rich_ends s L k t e gl r =
-      rich_as kind (shape_ends s k) (λ j. ends_parts kind (L j) k) (λ j. Ends kind (L j) k)
-      (rich_given s (shape_one (k ∷ [])) L (λ x j. Of (λ _. x) (Fixed kind k)) gl (λ x i j l u z m. m) r
-      (λ x. some_of kind (λ _. x) (λ _. Fixed kind k) (one r.some.0)) (λ g x. rich_of kind (λ _. x) (shape_one (k ∷ [])) (λ _. Fixed kind k) (rich_fixed kind k r.some.0 t e)))
-      (λ i. ends_to kind (L i) k)
-    where
-      one : I → Begins {I = I} (λ _. Fixed kind k) []
-      one i = (i, t ∷ [], tt, (t, refl, e))
-
   pub rich_within : {A : Type 0} (room : I → Bool) (s : Shape) (L : I → Lang T A) → ((i j : I) → le i j → room i ≡ true → room j ≡ true) →
       (i : I) × (room i ≡ true) → s.empty ≡ false → Grows le L → Rich kind s L → Rich kind s (λ j. Within (room j) (L j))
   rich_within {A} room s L keeps enough n gl e = record {
@@ -386,50 +280,3 @@ module _ {I T : Type 0} (kind : T → ℕ) (le : I → I → Type 0) (wide : Wid
     where
       roomy : (p : List T) → Begins L p → Begins (λ j. Within (room j) (L j)) p
       roomy p b = let k : _ = wide.upper enough.0 b.0 in (k.0, b.1, b.2, (keeps _ _ k.1 enough.1, gl _ _ k.2 _ _ b.3))
-
-  -- lists of one item at most are within limits that are wide enough
-  one_most : {A : Type 0} (n : I → ℕ) (L : I → Lang T (List A)) → Limit le n → Grows le L → (p : List T) (i : I) (q : List T) (x : A) → L i (p ++ q) (x ∷ []) →
-      Begins (λ j. Most (n j) (L j)) p
-  one_most n L lim gl p i q x m =
-      let a : (j : I) × (0 < n j) = lim.any 0 in
-      let k : _ = wide.upper i a.0 in
-      let b : n a.0 ≤ n k.0 = lim.keeps a.0 k.0 k.2 in
-      let c : 0 < n a.0 = a.1 in
-      (k.0, q, x ∷ [], (gl _ _ k.1 _ _ m, omega (arith, b, c)))
-
-  pub rich_most : {A : Type 0} (n : I → ℕ) (s : Shape) (L : I → Lang T A) → Limit le n → Grows le L → Rich kind s L →
-      Rich kind (shape_many s) (λ j. Most (n j) (Many (L j)))
-  rich_most n s L lim gl e = record {
-    some = (e.some.0, [], [], (refl, omega arith));
-    nothing = λ h. (e.some.0, [], (refl, omega arith));
-    opens = λ t h. let w : _ = e.opens t h in
-        one_most n (λ j. Many (L j)) lim (λ i j l. sub_many (L i) (L j) (gl i j l)) (t ∷ []) w.0 w.1 w.2 (t ∷ w.1, [], sym (append-nil (t ∷ w.1)), w.3, refl);
-  }
-
-  pub rich_separated_most : {A : Type 0} (k : ℕ) (n : I → ℕ) (s : Shape) (L : I → Lang T A) → Limit le n → Grows le L → s.empty ≡ false → Rich kind s L →
-      Rich kind (shape_then s (shape_many (shape_skip k s))) (λ j. Most (n j) (Separated kind k (L j)))
-  rich_separated_most k n s L lim gl z e = record {
-    some = one_most n (λ j. Separated kind k (L j)) lim grow [] e.some.0 e.some.1 e.some.2 (one_separated kind k (L e.some.0) e.some.1 e.some.2 e.some.3);
-    nothing = λ h. absurd (not_empty s true z h);
-    opens = λ t h. let w : _ = e.opens t (plain_first s (k ∷ []) (kind t) z h) in
-        one_most n (λ j. Separated kind k (L j)) lim grow (t ∷ []) w.0 w.1 w.2 (one_separated kind k (L w.0) (t ∷ w.1) w.2 w.3);
-  }
-    where
-      grow : Grows le (λ j. Separated kind k (L j))
-      grow i j l = sub_separated kind k (L i) (L j) (gl i j l)
-
-  pub rich_folded_most : {A : Type 0} (k : ℕ) (n : I → ℕ) (s : Shape) (f : A → A → A) (L : I → Lang T A) → Limit le n → Grows le L → s.empty ≡ false → Rich kind s L →
-      Rich kind (shape_then s (shape_many (shape_skip k s))) (λ j. Folded f (Most (n j) (Separated kind k (L j))))
-  rich_folded_most {A} k n s f L lim gl z e = record {
-    some = one [] e.some;
-    nothing = λ h. absurd (not_empty s true z h);
-    opens = λ t h. one (t ∷ []) (e.opens t (plain_first s (k ∷ []) (kind t) z h));
-  }
-    where
-      one : (p : List T) → Begins L p → Begins (λ j. Folded f (Most (n j) (Separated kind k (L j)))) p
-      one p b =
-          let a : (j : I) × (0 < n j) = lim.any 0 in
-          let h : _ = wide.upper b.0 a.0 in
-          let d : n a.0 ≤ n h.0 = lim.keeps a.0 h.0 h.2 in
-          let c : 0 < n a.0 = a.1 in
-          (h.0, b.1, b.2, (b.2, [], (one_separated kind k (L h.0) (p ++ b.1) b.2 (gl _ _ h.1 _ _ b.3), omega (arith, d, c)), refl))

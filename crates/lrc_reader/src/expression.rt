@@ -1,4 +1,5 @@
-//! The expressions that equations compute. Each function counts the nodes of the equation so far.
+//! The expressions that equations compute. Each function counts the nodes of the equation so far, and
+//! answers its expression in a box, so that the functions take little of the stack.
 
 ghost use Rattle.std.specs.Prelude.{◌≡◌, ◌<◌, IfOk, OnOk};
 ghost use Rattle.lrc_reader.specs.Gives.{Gives, GivesAs};
@@ -33,7 +34,11 @@ fn literal_value(lexeme: &Lexeme<'_>) -> Option<RawExpr>
 
 /// A literal.
 #[tactic(auto, unfolding(crate::specs::Reading::read_literal), using(crate::proofs::Next::one_took, crate::proofs::Next::one_end, crate::proofs::Next::one_other))]
-fn literal(cursor: &mut Cursor<'_>, nodes: &mut usize) -> Result<RawExpr, Stop>
+fn literal(
+    alloc: Global,
+    cursor: &mut Cursor<'_>,
+    nodes: &mut usize,
+) -> Result<Boxed<RawExpr>, Stop>
     ensures { GivesAs (λ x. (x, nodes.new)) result cursor.new (reading.read_literal 0 nodes.old cursor.old) }
 {
     cursor.room(*nodes, NODE_LIMIT, &LITERALS, Limit::Nodes)?;
@@ -45,7 +50,7 @@ fn literal(cursor: &mut Cursor<'_>, nodes: &mut usize) -> Result<RawExpr, Stop>
     };
     cursor.advance();
     *nodes += 1;
-    Ok(value)
+    Ok(Boxed::new(alloc, value)?)
 }
 
 /// The word with which a node begins.
@@ -117,39 +122,41 @@ fn comparison_mark(cursor: &mut Cursor<'_>, nodes: usize) -> Result<Op, Stop>
 
 /// An attribute of a symbol.
 #[tactic(auto, unfolding(crate::specs::Reading::read_two))]
-fn attribute(cursor: &mut Cursor<'_>, symbol: NameText, nodes: usize) -> Result<RawExpr, Stop>
+fn attribute(
+    alloc: Global,
+    cursor: &mut Cursor<'_>,
+    symbol: NameText,
+    nodes: usize,
+) -> Result<Boxed<RawExpr>, Stop>
     ensures { GivesAs (λ x. (x, nodes)) result cursor.new (reading.read_two symbol nodes cursor.old) }
 {
     cursor.expect(Mark::Dot)?;
     let attribute = cursor.word()?;
-    Ok(RawExpr::Two(symbol, attribute))
+    Ok(Boxed::new(alloc, RawExpr::Two(symbol, attribute))?)
 }
 
 /// An operation.
-fn operation(alloc: Global, operator: Op, left: RawExpr, right: RawExpr) -> Result<RawExpr, Memory>
+fn operation(
+    alloc: Global,
+    operator: Op,
+    left: Boxed<RawExpr>,
+    right: Boxed<RawExpr>,
+) -> Result<Boxed<RawExpr>, Memory>
     ensures { IfOk result (λ x. x ≡ RawExpr.Op operator left right) }
 {
-    Ok(RawExpr::Op(
-        operator,
-        Boxed::new(alloc, left)?,
-        Boxed::new(alloc, right)?,
-    ))
+    Boxed::new(alloc, RawExpr::Op(operator, left, right))
 }
 
 /// A choice by a condition.
 fn choice(
     alloc: Global,
-    condition: RawExpr,
-    then_part: RawExpr,
-    else_part: RawExpr,
-) -> Result<RawExpr, Memory>
+    condition: Boxed<RawExpr>,
+    then_part: Boxed<RawExpr>,
+    else_part: Boxed<RawExpr>,
+) -> Result<Boxed<RawExpr>, Memory>
     ensures { IfOk result (λ x. x ≡ RawExpr.If condition then_part else_part) }
 {
-    Ok(RawExpr::If(
-        Boxed::new(alloc, condition)?,
-        Boxed::new(alloc, then_part)?,
-        Boxed::new(alloc, else_part)?,
-    ))
+    Boxed::new(alloc, RawExpr::If(condition, then_part, else_part))
 }
 
 /// An expression in brackets.
@@ -160,7 +167,7 @@ fn brackets(
     cursor: &mut Cursor<'_>,
     levels: usize,
     nodes: &mut usize,
-) -> Result<RawExpr, Stop>
+) -> Result<Boxed<RawExpr>, Stop>
     ensures { GivesAs (λ x. (x, nodes.new)) result cursor.new (reading.read_brackets 0 (reading.read_expr_at 0 levels) nodes.old cursor.old) }
 {
     cursor.expect(Mark::LeftParen)?;
@@ -182,7 +189,7 @@ fn push_argument(
     ensures { GivesAs (λ _. (arguments.new, nodes.new)) result cursor.new (reading.read_push_argument 0 (reading.read_expr_at 0 levels) (arguments.old, nodes.old) cursor.old) }
 {
     let argument = expression_at(alloc, cursor, levels, nodes)?;
-    arguments.push(argument)?;
+    arguments.push(argument.into_inner())?;
     Ok(())
 }
 
@@ -247,13 +254,13 @@ fn tree(
     levels: usize,
     production: NameText,
     nodes: &mut usize,
-) -> Result<RawExpr, Stop>
+) -> Result<Boxed<RawExpr>, Stop>
     ensures { GivesAs (λ x. (x, nodes.new)) result cursor.new (reading.read_make 0 (reading.read_expr_at 0 levels) production nodes.old cursor.old) }
 {
     cursor.expect(Mark::LeftParen)?;
     let arguments = any_arguments(alloc, cursor, levels, nodes)?;
     cursor.expect(Mark::RightParen)?;
-    Ok(RawExpr::Make(production, arguments))
+    Ok(Boxed::new(alloc, RawExpr::Make(production, arguments))?)
 }
 
 /// A name, an attribute of what it names, or a tree of a production.
@@ -264,7 +271,7 @@ fn named(
     cursor: &mut Cursor<'_>,
     levels: usize,
     nodes: &mut usize,
-) -> Result<RawExpr, Stop>
+) -> Result<Boxed<RawExpr>, Stop>
     ensures { GivesAs (λ x. (x, nodes.new)) result cursor.new (reading.read_named 0 (reading.read_expr_at 0 levels) nodes.old cursor.old) }
 {
     let name = name(cursor, *nodes)?;
@@ -273,9 +280,9 @@ fn named(
         return tree(alloc, cursor, levels, name, nodes);
     }
     if cursor.sees(Mark::Dot) {
-        return attribute(cursor, name, *nodes);
+        return attribute(alloc, cursor, name, *nodes);
     }
-    Ok(RawExpr::One(name))
+    Ok(Boxed::new(alloc, RawExpr::One(name))?)
 }
 
 /// A literal, an expression in brackets or what a name begins.
@@ -286,11 +293,11 @@ fn atom(
     cursor: &mut Cursor<'_>,
     levels: usize,
     nodes: &mut usize,
-) -> Result<RawExpr, Stop>
+) -> Result<Boxed<RawExpr>, Stop>
     ensures { GivesAs (λ x. (x, nodes.new)) result cursor.new (reading.read_atom 0 (reading.read_expr_at 0 levels) nodes.old cursor.old) }
 {
     if cursor.sees_one_of(&LITERALS) {
-        return literal(cursor, nodes);
+        return literal(alloc, cursor, nodes);
     }
     if cursor.sees(Mark::LeftParen) {
         return brackets(alloc, cursor, levels, nodes);
@@ -305,9 +312,9 @@ fn factor(
     alloc: Global,
     cursor: &mut Cursor<'_>,
     levels: usize,
-    left: RawExpr,
+    left: Boxed<RawExpr>,
     nodes: &mut usize,
-) -> Result<RawExpr, Stop>
+) -> Result<Boxed<RawExpr>, Stop>
     ensures { GivesAs (λ x. (x, nodes.new)) result cursor.new (reading.read_factor 0 (reading.read_expr_at 0 levels) (left, nodes.old) cursor.old) }
 {
     let operator = times(cursor, *nodes)?;
@@ -324,7 +331,7 @@ fn product(
     cursor: &mut Cursor<'_>,
     levels: usize,
     nodes: &mut usize,
-) -> Result<RawExpr, Stop>
+) -> Result<Boxed<RawExpr>, Stop>
     ensures { GivesAs (λ x. (x, nodes.new)) result cursor.new (reading.read_product 0 (reading.read_expr_at 0 levels) nodes.old cursor.old) }
 {
     let mut product = atom(alloc, cursor, levels, nodes)?;
@@ -341,9 +348,9 @@ fn addend(
     alloc: Global,
     cursor: &mut Cursor<'_>,
     levels: usize,
-    left: RawExpr,
+    left: Boxed<RawExpr>,
     nodes: &mut usize,
-) -> Result<RawExpr, Stop>
+) -> Result<Boxed<RawExpr>, Stop>
     ensures { GivesAs (λ x. (x, nodes.new)) result cursor.new (reading.read_addend 0 (reading.read_expr_at 0 levels) (left, nodes.old) cursor.old) }
 {
     let operator = plus(cursor, *nodes)?;
@@ -360,7 +367,7 @@ fn sum(
     cursor: &mut Cursor<'_>,
     levels: usize,
     nodes: &mut usize,
-) -> Result<RawExpr, Stop>
+) -> Result<Boxed<RawExpr>, Stop>
     ensures { GivesAs (λ x. (x, nodes.new)) result cursor.new (reading.read_sum 0 (reading.read_expr_at 0 levels) nodes.old cursor.old) }
 {
     let mut sum = product(alloc, cursor, levels, nodes)?;
@@ -377,9 +384,9 @@ fn compared(
     alloc: Global,
     cursor: &mut Cursor<'_>,
     levels: usize,
-    left: RawExpr,
+    left: Boxed<RawExpr>,
     nodes: &mut usize,
-) -> Result<RawExpr, Stop>
+) -> Result<Boxed<RawExpr>, Stop>
     ensures { GivesAs (λ x. (x, nodes.new)) result cursor.new (reading.read_compared 0 (reading.read_expr_at 0 levels) (left, nodes.old) cursor.old) }
 {
     let operator = comparison_mark(cursor, *nodes)?;
@@ -396,7 +403,7 @@ fn comparison(
     cursor: &mut Cursor<'_>,
     levels: usize,
     nodes: &mut usize,
-) -> Result<RawExpr, Stop>
+) -> Result<Boxed<RawExpr>, Stop>
     ensures { GivesAs (λ x. (x, nodes.new)) result cursor.new (reading.read_compare 0 (reading.read_expr_at 0 levels) nodes.old cursor.old) }
 {
     let left = sum(alloc, cursor, levels, nodes)?;
@@ -414,7 +421,7 @@ fn conditional(
     cursor: &mut Cursor<'_>,
     levels: usize,
     nodes: &mut usize,
-) -> Result<RawExpr, Stop>
+) -> Result<Boxed<RawExpr>, Stop>
     ensures { GivesAs (λ x. (x, nodes.new)) result cursor.new (reading.read_if 0 (reading.read_expr_at 0 levels) nodes.old cursor.old) }
 {
     if_mark(cursor, *nodes)?;
@@ -435,7 +442,7 @@ fn expression_at(
     cursor: &mut Cursor<'_>,
     levels: usize,
     nodes: &mut usize,
-) -> Result<RawExpr, Stop>
+) -> Result<Boxed<RawExpr>, Stop>
     ensures { GivesAs (λ x. (x, nodes.new)) result cursor.new (reading.read_expr_at 0 levels nodes.old cursor.old) }
 {
     if levels == 0 {
@@ -453,5 +460,6 @@ pub fn expression(alloc: Global, cursor: &mut Cursor<'_>) -> Result<RawExpr, Sto
     ensures { Gives result cursor.new (reading.read_expr 0 cursor.old) }
 {
     let mut nodes = 0;
-    expression_at(alloc, cursor, EXPRESSION_LEVELS, &mut nodes)
+    let value = expression_at(alloc, cursor, EXPRESSION_LEVELS, &mut nodes)?;
+    Ok(value.into_inner())
 }

@@ -246,6 +246,19 @@ fn what_is_nested_too_deep_is_told(rt: HostRuntime) -> Result<(), Fail> {
         999,
         JobFault::NestedTooDeep { at: 1025 },
     )?;
+    let calls = Shape {
+        before: b"lrc 1 prod P: A () { a = ",
+        open: b"P(",
+        close: b")",
+        after: b"; } start A;",
+    };
+    assert_limit(
+        &rt,
+        rt.alloc(),
+        &calls,
+        999,
+        JobFault::NestedTooDeep { at: 2025 },
+    )?;
     let trees = Shape {
         before: b"lrc 1 start A; session on ",
         open: b"P(",
