@@ -75,12 +75,13 @@ literal int bool name _ = None
 
 -- ---- sorts
 
--- "Int" | "Bool" | "Name" | Word
+-- Word, the name of a sort
 abbrev pub IsNamedKind : Limited Lexeme RawKind
 IsNamedKind = do
   name ← IsWord
   pure (k.Named name)
 
+-- "Int" | "Bool" | "Name" | Word
 abbrev pub IsKind : Limited Lexeme RawKind
 IsKind = Either (constant m.Int k.Int) (Either (constant m.Bool k.Bool) (Either (constant m.Name k.Name) IsNamedKind))
 
@@ -169,6 +170,7 @@ IsStep slack first operator Operand x = do
   y ← Operand (x.1 + 1)
   pure (e.Op o x.0 y.0, y.1)
 
+-- a literal, which is one node
 abbrev pub IsLiteral : ℕ → ℕ → Limited Lexeme Counted
 IsLiteral slack nodes = do
   x ← IsNode slack nodes literals (One literal_expr)
@@ -215,6 +217,7 @@ module _ (slack : ℕ) (Inner : ℕ → Limited Lexeme Counted) where
     name ← IsNode slack nodes words IsWord
     Either (IsMake name (nodes + 1)) (Either (IsTwo name (nodes + 1)) (pure (e.One name, nodes + 1)))
 
+  -- literal | "(" expr ")" | what a Word begins
   abbrev pub IsAtom : ℕ → Limited Lexeme Counted
   IsAtom nodes = Either (IsLiteral slack nodes) (Either (IsBrackets nodes) (IsNamed nodes))
 
@@ -243,9 +246,11 @@ module _ (slack : ℕ) (Inner : ℕ → Limited Lexeme Counted) where
     else_part ← Inner then_part.1
     pure (e.If condition.0 then_part.0 else_part.0, else_part.1)
 
+  -- an expression whose parts in brackets, in arguments and of `if` are of `Inner`
   abbrev pub IsExprOver : ℕ → Limited Lexeme Counted
   IsExprOver nodes = Either (IsIf nodes) (IsCompare nodes)
 
+-- an expression, with at most 1,000 within one another and 1,000 nodes
 abbrev pub IsExpr : ℕ → Limited Lexeme RawExpr
 IsExpr slack = do
   x ← Levels kind exprs (IsExprOver slack) (level_limit slack) 0
@@ -277,6 +282,7 @@ IsAttach slack = do
   mark m.Semicolon
   pure (item.Attach name sort x)
 
+-- a piece of a pattern: bytes, or the name of a child
 abbrev pub piece_of : Lexeme → Option RawPiece
 piece_of (l.Text bytes) = Some (piece.Text bytes)
 piece_of (l.Word name) = Some (piece.Kid name)
@@ -358,14 +364,17 @@ IsTree Inner = do
   mark m.RightParen
   pure (t.Node name kids)
 
+-- literal | tree
 abbrev pub IsTermOver : (Unit {0} → Limited Lexeme RawTerm) → Unit {0} → Limited Lexeme RawTerm
 IsTermOver Inner q = Either (One literal_term) (IsTree (Inner q))
 
+-- a term, with at most 1,000 within one another
 abbrev pub IsTerm : ℕ → Limited Lexeme RawTerm
 IsTerm slack = Levels kind terms IsTermOver (level_limit slack) tt
 
 -- ---- the header and the grammar
 
+-- a natural of value 1
 abbrev pub one_of : Lexeme → Option (Unit {0})
 one_of (l.Natural value) = if int_eq value (pos 1) then Some tt else None
 one_of _ = None
@@ -416,6 +425,7 @@ IsShow = do
   mark m.Semicolon
   pure edit.Show
 
+-- the number that a natural is
 abbrev pub count_of : Lexeme → Option ℕ
 count_of (l.Natural value) = Some (unsigned_abs value)
 count_of _ = None
@@ -428,6 +438,7 @@ IsForget = do
   mark m.Semicolon
   pure (edit.Forget count)
 
+-- put | copy | show | forget
 abbrev pub IsEdit : ℕ → Limited Lexeme RawEdit
 IsEdit slack = Either (IsPut slack) (Either IsCopy (Either IsShow IsForget))
 
