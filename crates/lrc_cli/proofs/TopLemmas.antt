@@ -260,6 +260,7 @@ not_refused one words command (Some bytes) left' failure says run job r refused 
   where
     verb-is : refused.command.verb ≡ verb.Run
     verb-is = same_command (texts words) refused.command command refused.says says ∙ run
+
     by : (failure : Failure) → IsTrue (is_refusal failure) → IsRefused refused.command (Some bytes) left' failure → ⊥
     by _ r (unread unbuilt keeps) = unbuilt.0 verb-is
     by _ r (read input failure taken cause) =

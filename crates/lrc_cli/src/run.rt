@@ -19,8 +19,8 @@ use lrc_base::{Edit, Memory, Script};
 use lrc_grammar::attrs_of_sort;
 use lrc_job::Accepted;
 use lrc_lines::Failure;
-use lrc_script::{one_session, replies};
 use lrc_reader::one_job;
+use lrc_script::{one_session, replies};
 use lrc_words::Command;
 use std::alloc::Global;
 

@@ -15,8 +15,8 @@ ghost use Rattle.lrc_cli.specs.Status.{Done, Unwritten, Refused, HoldsJob, is_re
 use crate::check::check;
 use crate::run::{one_text, run_text};
 use lrc_lines::{Failure, put_line};
-use lrc_reader::one_job;
 use lrc_outside::{Sink, Source, put_all, take_up_to};
+use lrc_reader::one_job;
 use lrc_words::{Command, Verb, WordsFault, read_words};
 use std::alloc::Global;
 use std::thread::Threads;

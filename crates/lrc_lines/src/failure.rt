@@ -2,8 +2,8 @@ ghost use Rattle.std.specs.Prelude.{◌≡◌};
 ghost use Rattle.lrc_lines.specs.Lines.{status_of};
 
 use lrc_base::{Memory, NameText};
-use lrc_outside::{Failed, TakeFault};
 use lrc_job::AcceptFault;
+use lrc_outside::{Failed, TakeFault};
 use lrc_reader::JobFault;
 
 /// A cycle of dependencies: the production where it is, and the occurrence on it that is told.

@@ -5,10 +5,10 @@ ghost use Rattle.lrc_lines.specs.Lines.{line_of, line_feed, alone, of_job, at_pl
 
 use crate::failure::{Cycle, Failure};
 use crate::pieces::{Piece, put_pieces};
-use lrc_lex::LexFault;
-use lrc_outside::{Failed, Sink};
 use lrc_check::{GrammarFault, GrammarKind};
 use lrc_job::AcceptFault;
+use lrc_lex::LexFault;
+use lrc_outside::{Failed, Sink};
 use lrc_reader::{JobFault, Limit};
 use lrc_resolve::TermFault;
 
@@ -123,12 +123,7 @@ fn put_grammar<E: Sink>(err: &mut E, fault: &GrammarFault) -> Result<(), Failed>
     }
 }
 
-fn put_term<E: Sink>(
-    err: &mut E,
-    session: u32,
-    edit: u32,
-    fault: &TermFault,
-) -> Result<(), Failed>
+fn put_term<E: Sink>(err: &mut E, session: u32, edit: u32, fault: &TermFault) -> Result<(), Failed>
     ensures { Gains (E.held err.old) (E.held err.new) (E.faults err.old) (E.faults err.new) result (joined (term_parts session edit fault.now)) }
 {
     let job = Piece::Text(b"lrc: job: session ");
@@ -140,19 +135,30 @@ fn put_term<E: Sink>(
         TermFault::UnknownProduction(production) => {
             let unknown = Piece::Text(b": unknown production ");
             let production = Piece::Name(production);
-            put_pieces(err, &[job, session, edit_word, edit, unknown, production, end])
+            put_pieces(
+                err,
+                &[job, session, edit_word, edit, unknown, production, end],
+            )
         }
         TermFault::Arity(production) => {
             let wrong = Piece::Text(b": wrong number of children of ");
             let production = Piece::Name(production);
-            put_pieces(err, &[job, session, edit_word, edit, wrong, production, end])
+            put_pieces(
+                err,
+                &[job, session, edit_word, edit, wrong, production, end],
+            )
         }
         TermFault::KidKind(production, kid) => {
             let wrong = Piece::Text(b": wrong kind of child ");
             let kid = Piece::Number(*kid);
             let of = Piece::Text(b" of ");
             let production = Piece::Name(production);
-            put_pieces(err, &[job, session, edit_word, edit, wrong, kid, of, production, end])
+            put_pieces(
+                err,
+                &[
+                    job, session, edit_word, edit, wrong, kid, of, production, end,
+                ],
+            )
         }
         TermFault::Memory => {
             let memory = Piece::Text(b": no memory");
@@ -204,7 +210,10 @@ fn put_cycle<E: Sink>(err: &mut E, cycle: &Cycle) -> Result<(), Failed>
         Some(owner) => {
             let owner = Piece::Name(owner);
             let dot = Piece::Text(b".");
-            put_pieces(err, &[words, production, space, owner, dot, occurrence, end])
+            put_pieces(
+                err,
+                &[words, production, space, owner, dot, occurrence, end],
+            )
         }
     }
 }
