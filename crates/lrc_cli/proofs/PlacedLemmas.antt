@@ -1,9 +1,8 @@
 -- The occurrence on a cycle that the ordered test tells is one of its production.
-use Rattle.std.proofs.Common.{◌≡◌, ℕ, zero, suc, ◌+◌, ◌<◌, ◌≤◌, ◌⊎◌, inl, inr, Bool, true, false, IsTrue, List, [], ◌∷◌, ◌++◌, All, Option, Some, None, map, length, get_or, slice_get, refl, sym, ap, ◌∙◌, subst, arith, length-append}
+use Rattle.std.proofs.Common.{◌≡◌, ℕ, zero, suc, ◌<◌, inl, inr, Bool, true, false, IsTrue, List, [], ◌∷◌, ◌++◌, All, Some, map, length, get_or, slice_get, refl, subst, arith, length-append}
 use Rattle.std.specs.List.{flat_map, Contains}
 use Rattle.std.proofs.lemmas.List.{length-map}
 use Rattle.std.proofs.lemmas.List.Elements.{All-contains, Contains-get_or}
-use Rattle.lrc_base.specs.declared.grammar.Attr.{Attr}
 use Rattle.lrc_base.specs.declared.grammar.Sort.{Sort}
 use Rattle.lrc_base.specs.declared.grammar.Kid.{Kid}
 use Rattle.lrc_base.specs.declared.grammar.Extra.{Extra}
@@ -14,12 +13,11 @@ use Rattle.lrc_meaning.specs.Naming.{called_own, called_of, called_extra, called
 use Rattle.lrc_graph.specs.Pairs.{Path, step}
 use Rattle.lrc_graph.specs.Pairs as path
 use Rattle.lrc_order.specs.Induced as induced
-use Rattle.lrc_order.specs.declared.Place.{Place}
 use Rattle.lrc_order.specs.Needs.{needs_of, places_of}
 use Rattle.lrc_order.specs.Induced.{Leads, by_need, by_sort, Induced, is_given, is_joined}
-use Rattle.lrc_order.specs.Sets.{HasTurn, InGreatest, Placed, InSet, Before}
+use Rattle.lrc_order.specs.Sets.{HasTurn, Placed, Before}
 use Rattle.lrc_order.specs.Extended.{Extended, ExtendedPath}
-use Rattle.lrc_order.specs.Ordered.{IsFirstCycle, IsInducedCycle, IsExtendedCycle}
+use Rattle.lrc_order.specs.Ordered.{IsInducedCycle, IsExtendedCycle}
 use Rattle.lrc_ordered.specs.Setup.{IsNeedBelow}
 use Rattle.lrc_ordered.proofs.PlaceLemmas.{IsWithin, places_within}
 use Rattle.lrc_ordered.proofs.BridgeLemmas.{closed_within}

@@ -1,5 +1,5 @@
 -- From a session that can be run to its replies, and to the text of the run.
-use Rattle.std.proofs.Common.{◌≡◌, ℕ, Bool, true, false, ◌&&◌, ◌*◌, ◌<◌, ◌≤◌, IsTrue, List, [], ◌∷◌, map, length, Option, option_map, Result, Ok, Err, inl, inr, subst, sym, ap, refl, ◌∙◌}
+use Rattle.std.proofs.Common.{◌≡◌, ℕ, Bool, true, false, ◌&&◌, ◌<◌, ◌≤◌, IsTrue, List, [], ◌∷◌, map, Option, option_map, Ok, inl, inr, subst, sym, ap, refl, ◌∙◌}
 use Rattle.std.specs.List.{list_all}
 use Rattle.std.proofs.lemmas.Bool.{and_parts}
 use Rattle.std.proofs.lemmas.Bool.Decides.{leb_tells}
@@ -12,15 +12,13 @@ use Rattle.lrc_base.specs.declared.job.Script.{Script}
 use Rattle.lrc_base.specs.declared.job.Job.{Job}
 use Rattle.lrc_meaning.specs.Tree.{Tree, tree}
 use Rattle.lrc_meaning.specs.Grammar.{Grammar, attrs_of_sort, is_well_formed}
-use Rattle.lrc_meaning.specs.Plain.{is_plain}
 use Rattle.lrc_meaning.specs.Editing.{Change, change, Reply, ReplyRun, never_full}
 use Rattle.lrc_meaning.specs.Text.{unparsed, run_text}
 use Rattle.lrc_reader.specs.Denotes.{Denotes}
 use Rattle.lrc_script.specs.declared.reply.Replies.{Replies}
 use Rattle.lrc_script.specs.Script.{is_fitting_put, are_fitting_puts, reply_of, IsSessionOf, SessionsAreUnique}
 use Rattle.lrc_job.specs.Fitting.{edit_fits, script_fits}
-use Rattle.lrc_job.specs.Job.{Session, session, sessions_of, HasSessions}
-use Rattle.lrc_job.specs.declared.fault.AcceptFault.{AcceptFault}
+use Rattle.lrc_job.specs.Job.{Session, session, HasSessions}
 use Rattle.lrc_named.proofs.Grammars.{no_fault_is_named}
 use Rattle.lrc_cli.specs.Headline.{is_put, IsAccepted, IsBuilt, IsRunOf}
 use Rattle.lrc_cli.specs.Printed.{one_session}

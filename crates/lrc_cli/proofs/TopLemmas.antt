@@ -1,11 +1,10 @@
 -- Why an input is refused, and what is told of it.
-use Rattle.std.proofs.Common.{◌≡◌, ℕ, zero, suc, Bool, true, false, ◌<◌, ◌≤◌, ◌*◌, List, [], ◌∷◌, length, take, Option, Some, None, Result, Ok, Err, OnOk, OnErr, IfOk, IfErr, IsErrAnd, ◌⊎◌, inl, inr, ◌≢◌, refl, sym, arith, ap, ◌∙◌, subst, IsTrue}
+use Rattle.std.proofs.Common.{◌≡◌, ℕ, Bool, true, false, ◌<◌, ◌≤◌, ◌*◌, List, [], ◌∷◌, length, take, Option, Some, None, Result, Ok, Err, IfOk, IfErr, IsErrAnd, ◌⊎◌, inl, inr, ◌≢◌, refl, sym, arith, ap, ◌∙◌, subst, IsTrue}
 use Rattle.std.proofs.lemmas.List.{drop_all, take_all}
 use Rattle.std.proofs.lemmas.Grind.{common_steps}
 use Rattle.std.specs.Prelude.{String}
 use Rattle.std.specs.declared.alloc.Global.{Global}
 use Rattle.std.specs.Io.KnownBytes.{Appends, Keeps}
-use Rattle.lrc_outside.specs.Count.{Rose}
 use Rattle.lrc_outside.specs.Known.{TakesUpTo, AppendsPart}
 use Rattle.lrc_words.specs.declared.command.Command.{Command}
 use Rattle.lrc_words.specs.declared.command.Verb.TheVariants as verb
@@ -27,7 +26,7 @@ use Rattle.lrc_meaning.specs.Editing.{Change}
 use Rattle.lrc_meaning.specs.Grammar.{Grammar}
 use Rattle.lrc_lines.specs.Taken.{failure_of_text, failure_of_job}
 use Rattle.lrc_cli.specs.Headline.{IsAccepted, IsBuilt, IsRunOf}
-use Rattle.lrc_cli.specs.Causes.{row_limit, IsUnordered, has_cycle, has_no_memory, IsUnbuilt, IsCause, no_job, not_accepted, too_many_rows, no_run, no_partitions, not_ordered, no_memory}
+use Rattle.lrc_cli.specs.Causes.{row_limit, IsUnordered, has_cycle, has_no_memory, IsCause, no_job, not_accepted, too_many_rows, no_run, no_partitions, not_ordered, no_memory}
 use Rattle.lrc_cli.proofs.RunLemmas.{OneJob, same_accepted}
 use Rattle.lrc_cli.specs.Status.{input_limit, IsReadWhole, Done, Unwritten, IsRefused, unread, read, Refused, HoldsJob, is_refusal}
 

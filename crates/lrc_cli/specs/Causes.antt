@@ -1,6 +1,6 @@
 -- Why a job is refused, in the order in which faults are looked for: its text, its acceptance, the rows of its
 -- sessions, what is not built yet, and for `check` the ordered test before that.
-use Rattle.std.specs.Prelude.{◌≡◌, ◌≢◌, ℕ, ◌*◌, ◌<◌, ◌≤◌, Bool, true, false, List, [], ◌∷◌, length, Option, Some, slice_get, ⊤}
+use Rattle.std.specs.Prelude.{◌≡◌, ◌≢◌, ℕ, ◌*◌, ◌<◌, ◌≤◌, Bool, true, false, List, [], length, Some, slice_get}
 use Rattle.lrc_base.specs.declared.job.Job.{Job}
 use Rattle.lrc_base.specs.declared.grammar.Production.{Production}
 use Rattle.lrc_meaning.specs.Tree.{Tree}

@@ -1,5 +1,5 @@
 -- The statuses and the lines of faults.
-use Rattle.std.specs.Prelude.{◌≡◌, ◌⊎◌, ℕ, ◌+◌, List, ◌++◌, [], ◌∷◌, Option, Some, None, Bool, true, false, codes, decimal}
+use Rattle.std.specs.Prelude.{◌≡◌, ◌⊎◌, ℕ, List, [], ◌∷◌, Option, Some, None, Bool, true, false, codes, decimal}
 use Rattle.lrc_lex.specs.declared.LexFault.{LexFault}
 use Rattle.lrc_lex.specs.declared.LexFault.TheVariants as lex
 use Rattle.lrc_reader.specs.declared.fault.JobFault.{JobFault}

@@ -1,4 +1,4 @@
-use Rattle.std.proofs.Common.{◌≡◌, Bool, subst, sym}
+use Rattle.std.proofs.Common.{Bool, subst, sym}
 use Rattle.lrc_grammar.specs.Grammar.{grammar_of}
 use Rattle.lrc_cli.specs.Causes.{IsCycleAt, has_cycle, has_no_memory}
 use Rattle.lrc_cli.proofs.PlacedLemmas.{placed}

@@ -1,4 +1,4 @@
-use Rattle.std.proofs.Common.{◌≡◌, ◌∙◌, ℕ, ◌*◌, ◌<◌, ◌≤◌, map, length, sym, subst}
+use Rattle.std.proofs.Common.{◌∙◌, ℕ, ◌*◌, ◌<◌, ◌≤◌, map, sym, subst}
 use Rattle.std.proofs.lemmas.List.{length-map}
 use Rattle.lrc_grammar.specs.Grammar.{grammar_of}
 use Rattle.lrc_job.specs.Job.{session}

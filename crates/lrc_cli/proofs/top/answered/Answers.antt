@@ -1,6 +1,5 @@
-use Rattle.std.proofs.Common.{◌≡◌, IsTrue, ℕ, List, subst}
+use Rattle.std.proofs.Common.{IsTrue, ℕ, List, subst}
 use Rattle.lrc_cli.specs.Causes.{IsCause}
-use Rattle.lrc_lines.specs.declared.failure.Failure.{Failure}
 use Rattle.lrc_lines.specs.declared.failure.Failure.TheVariants as f
 use Rattle.lrc_cli.specs.Headline.{IsRunOf}
 use Rattle.lrc_cli.specs.Status.{Refused, is_refusal}

@@ -1,4 +1,4 @@
-use Rattle.std.proofs.Common.{ℕ, ◌≤◌, rules, arith}
+use Rattle.std.proofs.Common.{rules, arith}
 use native.Mathlib.Numerals.{unary_clauses}
 use Rattle.lrc_lines.proofs.PieceLemmas.{none_yet, more_so_far, failed}
 use Rattle.lrc_lines.proofs.pieces.put_pieces.Goals as goal
