@@ -57,7 +57,7 @@ fn literal(
 #[tactic(auto, unfolding(crate::specs::Reading::read_name))]
 fn name(cursor: &mut Cursor<'_>, nodes: usize) -> Result<NameText, Stop>
     ensures gives { Gives result cursor.new (reading.read_name 0 nodes cursor.old) }
-    ensures within { OnOk result (nodes < 1000) }
+    ensures within { OnOk result (nodes < NODE_LIMIT) }
 {
     cursor.room(nodes, NODE_LIMIT, &WORDS, Limit::Nodes)?;
     cursor.word()
@@ -67,7 +67,7 @@ fn name(cursor: &mut Cursor<'_>, nodes: usize) -> Result<NameText, Stop>
 #[tactic(auto, unfolding(crate::specs::Reading::read_if_mark))]
 fn if_mark(cursor: &mut Cursor<'_>, nodes: usize) -> Result<(), Stop>
     ensures gives { Gives result cursor.new (reading.read_if_mark 0 nodes cursor.old) }
-    ensures within { OnOk result (nodes < 1000) }
+    ensures within { OnOk result (nodes < NODE_LIMIT) }
 {
     cursor.room(nodes, NODE_LIMIT, &CONDITIONALS, Limit::Nodes)?;
     cursor.expect(Mark::If)
@@ -77,7 +77,7 @@ fn if_mark(cursor: &mut Cursor<'_>, nodes: usize) -> Result<(), Stop>
 #[tactic(auto, unfolding(crate::specs::Reading::read_times), using(crate::proofs::Next::one_took, crate::proofs::Next::one_end, crate::proofs::Next::one_other))]
 fn times(cursor: &mut Cursor<'_>, nodes: usize) -> Result<Op, Stop>
     ensures gives { Gives result cursor.new (reading.read_times 0 nodes cursor.old) }
-    ensures within { OnOk result (nodes < 1000) }
+    ensures within { OnOk result (nodes < NODE_LIMIT) }
 {
     cursor.room(nodes, NODE_LIMIT, &TIMES, Limit::Nodes)?;
     let operator = match cursor.peek() {
@@ -92,7 +92,7 @@ fn times(cursor: &mut Cursor<'_>, nodes: usize) -> Result<Op, Stop>
 #[tactic(auto, unfolding(crate::specs::Reading::read_plus), using(crate::proofs::Next::one_took, crate::proofs::Next::one_end, crate::proofs::Next::one_other))]
 fn plus(cursor: &mut Cursor<'_>, nodes: usize) -> Result<Op, Stop>
     ensures gives { Gives result cursor.new (reading.read_plus 0 nodes cursor.old) }
-    ensures within { OnOk result (nodes < 1000) }
+    ensures within { OnOk result (nodes < NODE_LIMIT) }
 {
     cursor.room(nodes, NODE_LIMIT, &PLUS, Limit::Nodes)?;
     let operator = match cursor.peek() {
@@ -108,7 +108,7 @@ fn plus(cursor: &mut Cursor<'_>, nodes: usize) -> Result<Op, Stop>
 #[tactic(auto, unfolding(crate::specs::Reading::read_comparison), using(crate::proofs::Next::one_took, crate::proofs::Next::one_end, crate::proofs::Next::one_other))]
 fn comparison_mark(cursor: &mut Cursor<'_>, nodes: usize) -> Result<Op, Stop>
     ensures gives { Gives result cursor.new (reading.read_comparison 0 nodes cursor.old) }
-    ensures within { OnOk result (nodes < 1000) }
+    ensures within { OnOk result (nodes < NODE_LIMIT) }
 {
     cursor.room(nodes, NODE_LIMIT, &COMPARISONS, Limit::Nodes)?;
     let operator = match cursor.peek() {

@@ -20,7 +20,7 @@ use std::alloc::Global;
 
 /// Where the first of the last `left` tokens begins; the text's length where none is left.
 fn place(text: &[u8], tokens: &[Token], left: usize) -> u32
-    requires { length text.now ≤ 16777216 }
+    requires { length text.now ≤ TEXT_LIMIT }
     ensures { result ≡ start_of text.now (drop (length tokens.now - left) tokens.now) }
 {
     match &tokens[tokens.len().saturating_sub(left)..] {
@@ -43,7 +43,7 @@ fn fault(stop: Stop, at: u32) -> JobFault
 
 /// The job that the tokens of a text stand for.
 fn job_of(alloc: Global, text: &[u8], found: &[Token]) -> Result<Job, JobFault>
-    requires short { length text.now ≤ 16777216 }
+    requires short { length text.now ≤ TEXT_LIMIT }
     requires cut { Tokens text.now found.now }
     requires each { All (IsTokenOf text.now) found.now }
     ensures ok { IfOk result (λ job. Denotes text.now job) }
@@ -66,7 +66,7 @@ fn job_of(alloc: Global, text: &[u8], found: &[Token]) -> Result<Job, JobFault>
 
 /// The tokens of a text.
 fn tokens_of(alloc: Global, text: &[u8]) -> Result<List<Token>, JobFault>
-    requires { length text.now ≤ 16777216 }
+    requires { length text.now ≤ TEXT_LIMIT }
     ensures ok { IfOk result (λ found. Tokens text.now found) }
     ensures each { IfOk result (λ found. All (IsTokenOf text.now) found) }
     ensures fault { IfErr result (λ fault. fault ≢ JobFault.Memory → FirstTextFault text.now fault) }
