@@ -1,5 +1,5 @@
 -- The faults of sessions are none of the grammar.
-use Rattle.std.proofs.Common.{◌≡◌, ◌≢◌, ℕ, suc, Bool, true, false, cond, List, [], ◌∷◌, Result, Ok, Err, ap}
+use Rattle.std.proofs.Common.{◌≡◌, ◌≢◌, ℕ, Bool, true, false, cond, List, [], ◌∷◌, Result, Ok, Err, ap}
 use Rattle.lrc_base.specs.declared.grammar.Production.{Production}
 use Rattle.lrc_base.specs.declared.grammar.Kind.TheVariants as k
 use Rattle.lrc_base.specs.declared.job.RawEdit.{RawEdit}
@@ -13,7 +13,7 @@ use Rattle.lrc_resolve.specs.declared.fault.TermFault.{TermFault}
 use Rattle.lrc_resolve.specs.Resolved.{and_then, map_ok, is_of_kind, resolved}
 use Rattle.lrc_job.specs.declared.fault.AcceptFault.{AcceptFault}
 use Rattle.lrc_job.specs.declared.fault.AcceptFault.TheVariants as fault
-use Rattle.lrc_job.specs.Job.{term_at, put_of, change_of, changes_of, of_start, session_of, sessions_of, HasSessions, IsFaultOf}
+use Rattle.lrc_job.specs.Job.{next, term_at, put_of, change_of, changes_of, of_start, session_of, sessions_of, HasSessions, IsFaultOf}
 
 -- a fault that is none of the grammar
 abbrev pub NotOfGrammar : {A : Type 0} → Result A AcceptFault → Type 0
@@ -43,7 +43,7 @@ of_change prods s e (raw.Forget place) = λ f h. absurd (cc)
 of_changes : (prods : List Production) (s e : ℕ) (xs : List RawEdit) → NotOfGrammar (changes_of prods s e xs)
 of_changes prods s e [] = of_ok []
 of_changes prods s e (x ∷ xs) =
-    of_both (λ c. map_ok (λ cs. c ∷ cs) (changes_of prods s (suc e) xs)) (change_of prods s e x) (of_change prods s e x) (λ c. of_map (λ cs. c ∷ cs) (changes_of prods s (suc e) xs) (of_changes prods s (suc e) xs))
+    of_both (λ c. map_ok (λ cs. c ∷ cs) (changes_of prods s (next e) xs)) (change_of prods s e x) (of_change prods s e x) (λ c. of_map (λ cs. c ∷ cs) (changes_of prods s (next e) xs) (of_changes prods s (next e) xs))
 
 of_choice : (b : Bool) (s : ℕ) (t : Tree) → NotOfGrammar (cond b (Ok t) (Err (fault.NotStart s)))
 of_choice true s t f h = absurd (cc)
@@ -58,7 +58,7 @@ of_session g s script =
 of_sessions : (g : Grammar) (s : ℕ) (xs : List RawScript) → NotOfGrammar (sessions_of g s xs)
 of_sessions g s [] = of_ok []
 of_sessions g s (x ∷ xs) =
-    of_both (λ a. map_ok (λ as'. a ∷ as') (sessions_of g (suc s) xs)) (session_of g s x) (of_session g s x) (λ a. of_map (λ as'. a ∷ as') (sessions_of g (suc s) xs) (of_sessions g (suc s) xs))
+    of_both (λ a. map_ok (λ as'. a ∷ as') (sessions_of g (next s) xs)) (session_of g s x) (of_session g s x) (λ a. of_map (λ as'. a ∷ as') (sessions_of g (next s) xs) (of_sessions g (next s) xs))
 
 -- the fault of a job's sessions is that of the job
 pub fault_of_sessions : (job : Job) (g : Grammar) (e : AcceptFault) → (e ≢ fault.Memory → HasSessions job g (Err e)) → IsFaultOf job e

@@ -1,5 +1,5 @@
 -- Sessions are found exactly where their terms name trees that fit.
-use Rattle.std.proofs.Common.{◌≡◌, ℕ, suc, Bool, true, false, cond, List, [], ◌∷◌, Result, Ok, Err, refl, sym, ap, ◌∙◌, subst}
+use Rattle.std.proofs.Common.{◌≡◌, ℕ, Bool, true, false, cond, List, [], ◌∷◌, Result, Ok, Err, refl, sym, ap, ◌∙◌, subst}
 use Rattle.lrc_base.specs.declared.grammar.Kind.{Kind}
 use Rattle.lrc_base.specs.declared.grammar.Kind.TheVariants as k
 use Rattle.lrc_base.specs.declared.grammar.Production.{Production}
@@ -16,7 +16,7 @@ use Rattle.lrc_resolve.specs.Laws.{NamesFitting}
 use Rattle.lrc_resolve.proofs.LawLemmas.{found_fits, fitting_is_found, one_kind, same_as_itself}
 use Rattle.lrc_job.specs.declared.fault.AcceptFault.{AcceptFault}
 use Rattle.lrc_job.specs.declared.fault.AcceptFault.TheVariants as fault
-use Rattle.lrc_job.specs.Job.{Session, term_at, put_of, change_of, changes_of, of_start, session_of}
+use Rattle.lrc_job.specs.Job.{Session, next, term_at, put_of, change_of, changes_of, of_start, session_of}
 use Rattle.lrc_job.specs.Laws.{IsChangeOf, AreChangesOf, IsSessionOf}
 
 module _ (prods : List Production) where
@@ -37,9 +37,9 @@ module _ (prods : List Production) where
   changes_found : (s e : ℕ) (xs : List RawEdit) (cs : List Change) → changes_of prods s e xs ≡ Ok cs → AreChangesOf prods xs cs
   changes_found s e [] cs h = cc
   changes_found s e (x ∷ xs) cs h =
-      by (λ rest h'. changes_found s (suc e) xs rest h') (change_of prods s e x) refl (changes_of prods s (suc e) xs) refl h
+      by (λ rest h'. changes_found s (next e) xs rest h') (change_of prods s e x) refl (changes_of prods s (next e) xs) refl h
     where
-      by : ((rest : List Change) → changes_of prods s (suc e) xs ≡ Ok rest → AreChangesOf prods xs rest) → (r : Result Change AcceptFault) → change_of prods s e x ≡ r → (rs : Result (List Change) AcceptFault) → changes_of prods s (suc e) xs ≡ rs → and_then (λ c. map_ok (λ rest. c ∷ rest) rs) r ≡ Ok cs →
+      by : ((rest : List Change) → changes_of prods s (next e) xs ≡ Ok rest → AreChangesOf prods xs rest) → (r : Result Change AcceptFault) → change_of prods s e x ≡ r → (rs : Result (List Change) AcceptFault) → changes_of prods s (next e) xs ≡ rs → and_then (λ c. map_ok (λ rest. c ∷ rest) rs) r ≡ Ok cs →
           AreChangesOf prods (x ∷ xs) cs
       by again (Err f) first rs then h = absurd (cc)
       by again (Ok c) first (Err f) then h = absurd (cc)
@@ -59,8 +59,8 @@ module _ (prods : List Production) where
   changes_are : (s e : ℕ) (xs : List RawEdit) (cs : List Change) → AreChangesOf prods xs cs → changes_of prods s e xs ≡ Ok cs
   changes_are s e [] cs h = ap Ok (sym h)
   changes_are s e (x ∷ xs) cs h =
-      ap (and_then (λ c. map_ok (λ rest. c ∷ rest) (changes_of prods s (suc e) xs))) (change_is s e x h.0 h.2)
-      ∙ (ap (map_ok (λ rest. h.0 ∷ rest)) (changes_are s (suc e) xs h.1 h.3) ∙ ap Ok (sym h.4))
+      ap (and_then (λ c. map_ok (λ rest. c ∷ rest) (changes_of prods s (next e) xs))) (change_is s e x h.0 h.2)
+      ∙ (ap (map_ok (λ rest. h.0 ∷ rest)) (changes_are s (next e) xs h.1 h.3) ∙ ap Ok (sym h.4))
 
 module _ (g : Grammar) (s : ℕ) (script : RawScript) where
   opening_found : (t : Tree) (r : Result Tree TermFault) → resolved g.prods script.tree ≡ r → and_then (of_start g s) (term_at s 0 r) ≡ Ok t → NamesFitting g.prods script.tree t (k.Sort g.start)

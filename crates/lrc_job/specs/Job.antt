@@ -1,6 +1,7 @@
 -- The sessions of a job as they are written, over its grammar: each by numbers, or the first fault. In a session the
--- tree comes before the edits. Sessions are numbered from 1, and edits too; the number 0 stands for the tree.
-use Rattle.std.specs.Prelude.{◌≡◌, ◌≢◌, ℕ, suc, ◌≤◌, length, All, List, [], ◌∷◌, map, Option, Some, None, Result, Ok, Err, MatchResult, cond, option_map}
+-- tree comes before the edits. Sessions are numbered from 1, and edits too; the number 0 stands for the tree. A number
+-- stands still at the largest that a fault can hold.
+use Rattle.std.specs.Prelude.{◌≡◌, ◌≢◌, ℕ, ◌+◌, ◌-◌, ◌^◌, min, List, [], ◌∷◌, map, Option, Some, None, Result, Ok, Err, MatchResult, cond, option_map}
 use Rattle.lrc_base.specs.declared.grammar.Kind.{Kind}
 use Rattle.lrc_base.specs.declared.grammar.Kind.TheVariants as k
 use Rattle.lrc_base.specs.declared.grammar.Production.{Production}
@@ -12,7 +13,6 @@ use Rattle.lrc_base.specs.declared.job.Job.{Job}
 use Rattle.lrc_base.specs.declared.raw.RawGrammar.{RawGrammar}
 use Rattle.lrc_meaning.specs.Tree.{Tree, tree, kind_of}
 use Rattle.lrc_meaning.specs.Grammar.{Grammar}
-use Rattle.lrc_meaning.specs.Limits.{KeepsLimits}
 use Rattle.lrc_meaning.specs.Naming.{named_grammar}
 use Rattle.lrc_meaning.specs.Editing.{Change, put, copy, show, forget, change}
 use Rattle.lrc_faults.specs.Faults.{first_fault}
@@ -29,6 +29,10 @@ pub record Session : Type 0 where
 
 abbrev pub session : Script → Session
 session s = record { opening = tree s.tree; changes = map change s.edits }
+
+-- the number behind this one
+abbrev pub next : ℕ → ℕ
+next n = min (n + 1) (2 ^ 32 - 1)
 
 -- a term at this edit of this session
 abbrev pub term_at : ℕ → ℕ → Result Tree TermFault → Result Tree AcceptFault
@@ -49,7 +53,7 @@ change_of prods s e (raw.Forget place) = Ok (forget place)
 -- the changes of edits that are numbered from e on
 abbrev pub changes_of : List Production → ℕ → ℕ → List RawEdit → Result (List Change) AcceptFault
 changes_of prods s e [] = Ok []
-changes_of prods s e (x ∷ xs) = and_then (λ c. map_ok (λ cs. c ∷ cs) (changes_of prods s (suc e) xs)) (change_of prods s e x)
+changes_of prods s e (x ∷ xs) = and_then (λ c. map_ok (λ cs. c ∷ cs) (changes_of prods s (next e) xs)) (change_of prods s e x)
 
 -- a tree, where it is of the start sort
 abbrev pub of_start : Grammar → ℕ → Tree → Result Tree AcceptFault
@@ -63,17 +67,11 @@ session_of g s script =
 -- the sessions that are numbered from s on
 abbrev pub sessions_of : Grammar → ℕ → List RawScript → Result (List Session) AcceptFault
 sessions_of g s [] = Ok []
-sessions_of g s (x ∷ xs) = and_then (λ a. map_ok (λ as'. a ∷ as') (sessions_of g (suc s) xs)) (session_of g s x)
+sessions_of g s (x ∷ xs) = and_then (λ a. map_ok (λ as'. a ∷ as') (sessions_of g (next s) xs)) (session_of g s x)
 
 -- what is answered is what was found, and a fault too, but for want of memory
 abbrev pub Agrees : {A B : Type 0} → (B → A) → Result A AcceptFault → Result B AcceptFault → Type 0
 Agrees f found r = MatchResult r (λ b. found ≡ Ok (f b)) (λ e. e ≢ fault.Memory → found ≡ Err e)
-
--- the limits of a job: those of its grammar, 64 sessions, and 10,000 edits of each
-pub record IsWithinLimits (job : Job) : Type 0 where
-  pub grammar : KeepsLimits job.grammar
-  pub sessions : length job.sessions ≤ 64
-  pub edits : All (λ (s : RawScript). length s.edits ≤ 10000) job.sessions
 
 -- the job's grammar has no fault and is this one, and these are its sessions over it
 pub record HasSessions (job : Job) (grammar : Grammar) (found : Result (List Session) AcceptFault) : Type 0 where

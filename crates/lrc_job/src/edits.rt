@@ -1,4 +1,4 @@
-ghost use Rattle.std.specs.Prelude.{◌≡◌, ◌≤◌, IsTrue, IfOk, length, map};
+ghost use Rattle.std.specs.Prelude.{◌≡◌, IsTrue, IfOk, map};
 ghost use Rattle.std.specs.List.{list_all};
 ghost use Rattle.lrc_meaning.specs.Editing.{change};
 ghost use Rattle.lrc_job.specs.Fitting.{edit_fits};
@@ -49,14 +49,15 @@ pub fn edits_of(
     session: u32,
     raw: &[RawEdit],
 ) -> Result<List<Edit>, AcceptFault>
-    requires { length raw.now ≤ 10000 }
     ensures found { Agrees (map change) (changes_of grammar.now.prods session 1 raw.now) result }
     ensures fitting { IfOk result (λ made. IsTrue (list_all (edit_fits grammar.now.prods) made)) }
 {
     let mut edits = List::new(alloc);
-    for (i, edit) in raw.iter().enumerate() {
-        let made = edit_of(alloc, grammar, session, i as u32 + 1, edit)?;
+    let mut number = 1_u32;
+    for edit in raw {
+        let made = edit_of(alloc, grammar, session, number, edit)?;
         edits.push(made)?;
+        number = number.saturating_add(1);
     }
     Ok(edits)
 }

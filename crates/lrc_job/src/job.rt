@@ -5,7 +5,7 @@ ghost use Rattle.lrc_meaning.specs.Naming.{named_grammar};
 ghost use Rattle.lrc_faults.specs.Faults.{first_fault};
 ghost use Rattle.lrc_grammar.specs.Grammar.{grammar_of};
 ghost use Rattle.lrc_job.specs.Fitting.{script_fits};
-ghost use Rattle.lrc_job.specs.Job.{session, IsWithinLimits, HasSessions, IsFaultOf, IsGrammarFaultOf};
+ghost use Rattle.lrc_job.specs.Job.{session, HasSessions, IsFaultOf, IsGrammarFaultOf};
 
 use crate::fault::AcceptFault;
 use crate::sessions::sessions_of;
@@ -43,7 +43,7 @@ fn job_grammar(alloc: Global, raw: &RawGrammar) -> Result<Grammar, AcceptFault>
 /// The first fault: of the grammar, and else of its sessions in order, in each the fault of its tree,
 /// that it is not of the start sort, and the faults of the terms of its edits. Want of memory.
 pub fn accept(alloc: Global, job: &Job) -> Result<Accepted, AcceptFault>
-    requires { IsWithinLimits job.now }
+    requires { KeepsLimits job.now.grammar }
     ensures ok { IfOk result (λ a. HasSessions job.now (grammar_of a.grammar) (Ok (map session a.sessions))) }
     ensures err { IfErr result (IsFaultOf job.now) }
 {

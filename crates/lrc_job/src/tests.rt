@@ -2,7 +2,6 @@
 ghost use Rattle.std.specs.Prelude.{◌≡◌, ◌≤◌, [], ◌∷◌, length, IfOk};
 ghost use Rattle.lrc_meaning.specs.Limits.{KeepsLimits};
 ghost use Rattle.lrc_naming.specs.Called.{HasFewParts};
-ghost use Rattle.lrc_job.specs.Job.{IsWithinLimits};
 
 use crate::{AcceptFault, Accepted, accept};
 use lrc_base::{
@@ -110,7 +109,7 @@ fn num(alloc: Global, value: RawTerm) -> Result<RawTerm, Fail> {
 
 /// The job of the one session on the tree with the edit.
 fn job(alloc: Global, name: &[u8], tree: RawTerm, edit: RawEdit) -> Result<Job, Fail>
-    ensures { IfOk result (λ job. IsWithinLimits job) }
+    ensures { IfOk result (λ job. KeepsLimits job.grammar) }
 {
     let script = RawScript {
         tree,
