@@ -2,4 +2,3 @@ pub mod TextLemmas
 pub mod TopLemmas
 pub mod PlacedLemmas
 pub mod RunLemmas
-pub mod LimitLemmas

@@ -2,7 +2,6 @@ use Rattle.lrc_words.specs.declared.command.Command.{Command}
 use Rattle.lrc_lines.specs.Taken.{failure_of_text, failure_of_job}
 use Rattle.lrc_cli.specs.Causes.{IsCause}
 use Rattle.lrc_cli.proofs.TopLemmas.{if_err, text_cause, job_cause}
-use Rattle.lrc_cli.proofs.LimitLemmas.{within}
 use Rattle.lrc_cli.proofs.job.accepted_job.Goals as goal
 
 pub returns-in_err-job-clause-cause : goal.returns-in_err-job-clause-cause
@@ -15,6 +14,3 @@ returns-in_err-accept-clause-cause c =
     if_err c.from_residual-in_err-accept.result (λ failure. (command : Command) → IsCause command c.args.bytes.now failure) (failure_of_job c.in_err-accept.field-0.0)
     c.from_residual-in_err-accept.ensures.1
     (λ command. job_cause command c.args.bytes.now c.in_ok-job.job c.in_err-accept.field-0.0 c.in_ok-job.ensures.ok c.in_err-accept.ensures.err)
-
-pub accept-requires : goal.accept-requires
-accept-requires c = within c.args.bytes.now c.in_ok-job.job c.in_ok-job.ensures.limits c.in_ok-job.ensures.ok
