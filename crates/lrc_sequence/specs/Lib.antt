@@ -1,0 +1,4 @@
+pub mod Items
+pub mod Sequences
+pub mod Bindings
+pub mod Examples
