@@ -1,4 +1,6 @@
 pub mod Items
 pub mod Sequences
 pub mod Bindings
+pub mod Plans
+pub mod Sound
 pub mod Examples

@@ -10,6 +10,9 @@ ghost use Rattle.lrc_sequence.specs.Sequences.{segments_of};
 ghost use Rattle.lrc_sequence.specs.Bindings.{binding};
 ghost use Rattle.lrc_sequence.specs.Examples.{partitions, top, declaration, top_segments, declaration_segments, handed};
 
+use lrc_base::List;
+use lrc_order::Place;
+
 /// What a visit does next: evaluate the occurrence of this number, or make a visit, counted from 1, of
 /// the symbol of this number.
 #[derive(Debug, Clone, Copy, PartialEq, Eq)]
@@ -24,6 +27,24 @@ pub enum Action {
 pub enum Bound {
     Value(u32),
     Kid(u32, u32, u32),
+}
+
+/// An action with what it needs and what it makes.
+#[derive(Debug, Drop)]
+pub struct Step {
+    pub action: Action,
+    pub needs: List<Bound>,
+    pub makes: List<Bound>,
+}
+
+/// What is known of a production before any tree is visited. Segments are those of visits 1, 2, .. of
+/// its left side; bindings are by the visit that hands on, then by the later visit that takes.
+#[derive(Debug, Drop)]
+pub struct Sequences {
+    pub symbols: List<Place>,
+    pub actions: List<List<Action>>,
+    pub steps: List<List<Step>>,
+    pub bindings: List<List<List<Bound>>>,
 }
 
 /// In the declarations grammar the top visits its items twice, with their declarations as their

@@ -1,0 +1,6 @@
+//! Visit sequences and bindings of a grammar, after Kastens, Ordered Attributed Grammars (1980), and
+//! Pennings, Generating Incremental Attribute Evaluators (1994).
+#![tactic(auto)]
+
+mod item_set;
+mod visit_table;
