@@ -1,2 +1,3 @@
 pub mod AtLemmas
 pub mod SetLemmas
+pub mod VisitLemmas

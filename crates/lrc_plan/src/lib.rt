@@ -3,4 +3,6 @@
 #![tactic(auto)]
 
 mod item_set;
+mod parts;
 mod visit_table;
+mod visits;
