@@ -1,3 +1,4 @@
 pub mod AtLemmas
 pub mod SetLemmas
 pub mod VisitLemmas
+pub mod PairLemmas

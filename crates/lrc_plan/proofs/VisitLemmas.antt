@@ -35,6 +35,19 @@ module _ {X : Type 0} (f : ℕ → X) (test : ℕ → Bool) where
       ∙ map-append f (filter test (range_with_len 0 n)) (filter test (n ∷ []))
       ∙ ap (λ xs. passed n ++ xs) (one_over b n e)
 
+-- the same behind others
+module _ {X : Type 0} (f : ℕ → X) (test : ℕ → Bool) (n : ℕ) (items now old : List X) (before : items ≡ old ++ passed f test n) where
+  pub passed_on : test n ≡ true → now ≡ items ++ f n ∷ [] → now ≡ old ++ passed f test (n + 1)
+  passed_on e is =
+      is
+      ∙ ap (λ xs. xs ++ f n ∷ []) before
+      ∙ append_assoc old (passed f test n) (f n ∷ [])
+      ∙ ap (λ xs. old ++ xs) (sym (passed_more f test n true e))
+
+  pub passed_by : test n ≡ false → now ≡ items → now ≡ old ++ passed f test (n + 1)
+  passed_by e is =
+      is ∙ before ∙ ap (λ xs. old ++ xs) (sym (passed_more f test n false e ∙ append-nil (passed f test n)))
+
 -- items of numbers in a row behind others, with one number more
 pub row_more : {X : Type 0} (f : ℕ → X) (old items now : List X) (a n k m : ℕ) → items ≡ old ++ map f (range_with_len a n) → now ≡ items ++ f k ∷ []
     → a + n ≡ k → m ≡ n + 1 → now ≡ old ++ map f (range_with_len a m)
@@ -48,17 +61,3 @@ row_more f old items now a n k m before one at next =
 abbrev pub values_below : List Partition → List Attr → Bool → ℕ → ℕ → ℕ → ℕ → List Bound
 values_below parts attrs inherited s start v n =
     passed (λ x. b.Value (start + x)) (λ x. is_of attrs inherited x && (visit_of parts s x == v)) n
-
-module _ (parts : List Partition) (attrs : List Attr) (inherited : Bool) (s start v n : ℕ) (items old : List Bound) (before : items ≡ old ++ values_below parts attrs inherited s start v n) where
-  pub values_more : (is_of attrs inherited n && (visit_of parts s n == v)) ≡ true
-      → items ++ b.Value (start + n) ∷ [] ≡ old ++ values_below parts attrs inherited s start v (n + 1)
-  values_more e =
-      ap (λ xs. xs ++ b.Value (start + n) ∷ []) before
-      ∙ append_assoc old (values_below parts attrs inherited s start v n) (b.Value (start + n) ∷ [])
-      ∙ ap (λ xs. old ++ xs) (sym (passed_more (λ x. b.Value (start + x)) (λ x. is_of attrs inherited x && (visit_of parts s x == v)) n true e))
-
-  pub values_same : (is_of attrs inherited n && (visit_of parts s n == v)) ≡ false → items ≡ old ++ values_below parts attrs inherited s start v (n + 1)
-  values_same e =
-      before
-      ∙ ap (λ xs. old ++ xs)
-      (sym (passed_more (λ x. b.Value (start + x)) (λ x. is_of attrs inherited x && (visit_of parts s x == v)) n false e ∙ append-nil (values_below parts attrs inherited s start v n)))

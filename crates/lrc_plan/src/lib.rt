@@ -3,6 +3,7 @@
 #![tactic(auto)]
 
 mod item_set;
+mod pairs;
 mod parts;
 mod visit_table;
 mod visits;
