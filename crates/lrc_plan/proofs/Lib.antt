@@ -2,3 +2,4 @@ pub mod AtLemmas
 pub mod SetLemmas
 pub mod VisitLemmas
 pub mod PairLemmas
+pub mod WaitingLemmas

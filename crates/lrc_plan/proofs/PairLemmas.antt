@@ -1,9 +1,9 @@
 -- Lists of pairs, one more at a time.
-use Rattle.std.proofs.Common.{◌≡◌, ℕ, zero, suc, ◌+◌, ◌<◌, Bool, true, false, ◌==◌, cond, List, [], ◌∷◌, ◌++◌, map, take, length, get_or, slice_set, refl, sym, ap, ◌∙◌, append-nil, append_assoc, arith}
+use Rattle.std.proofs.Common.{◌≡◌, ℕ, zero, suc, ◌+◌, ◌<◌, Bool, true, false, ◌==◌, cond, List, [], ◌∷◌, ◌++◌, map, take, length, get_or, slice_set, All, subst, length-append, refl, sym, ap, ◌∙◌, append-nil, append_assoc, arith}
 use Rattle.std.specs.Prelude.{filter, flat_map}
 use Rattle.std.specs.List.{range_with_len}
 use Rattle.std.proofs.lemmas.Bool.{eq-eqb, ne_eqb}
-use Rattle.std.proofs.lemmas.List.{map-append, take_more, get_or-set_same}
+use Rattle.std.proofs.lemmas.List.{map-append, take_more, get_or-set_same, get_or_append_left}
 use Rattle.std.proofs.lemmas.List.Elements.{filter-append}
 use Rattle.std.proofs.lemmas.List.Concat.{flat_map-append}
 use Rattle.std.proofs.lemmas.List.FromFn.{get_or-map-range_with_len, length-map-range_with_len}
@@ -74,3 +74,13 @@ lists_more pairs i count n lists list there is small before grown =
 
 pub lists_count : (pairs : List Need) (count : ℕ) (lists : List (List Bound)) → lists ≡ map (firsts_of pairs) (range_with_len 0 count) → length lists ≡ count
 lists_count pairs count lists is = ap (length {A = List Bound}) is ∙ length-map-range_with_len (firsts_of pairs) 0 count
+
+pub lists_are : (pairs those : List Need) (count total : ℕ) (lists : List (List Bound)) → lists ≡ map (firsts_of pairs) (range_with_len 0 count) → pairs ≡ those → count ≡ total
+    → lists ≡ map (firsts_of those) (range_with_len 0 total)
+lists_are pairs those count total lists made same number =
+    made ∙ ap (λ ps. map (firsts_of ps) (range_with_len 0 count)) same ∙ ap (λ n. map (firsts_of those) (range_with_len 0 n)) number
+
+pub all_front : {X : Type 0} (P : X → Type 0) (xs ys : List X) → All P (xs ++ ys) → All P xs
+all_front P xs ys all k d less =
+    let more = length-append xs ys in
+    subst P (get_or_append_left xs ys d k less) (all k d (omega arith))

@@ -35,6 +35,19 @@ module _ {X : Type 0} (f : ℕ → X) (test : ℕ → Bool) where
       ∙ map-append f (filter test (range_with_len 0 n)) (filter test (n ∷ []))
       ∙ ap (λ xs. passed n ++ xs) (one_over b n e)
 
+-- two functions that agree below a number
+pub passed_same : {X : Type 0} (f g : ℕ → X) (test : ℕ → Bool) (n : ℕ) → ((o : ℕ) → o < n → f o ≡ g o) → passed f test n ≡ passed g test n
+passed_same f g test zero same = refl
+passed_same f g test (suc n) same =
+    let next : suc n ≡ n + 1 = omega arith in
+    let here : cond (test n) (f n ∷ []) [] ≡ cond (test n) (g n ∷ []) [] = ap (λ x. cond (test n) (x ∷ []) []) (same n (omega arith)) in
+    ap (passed f test) next
+    ∙ passed_more f test n (test n) refl
+    ∙ ap (λ xs. xs ++ cond (test n) (f n ∷ []) []) (passed_same f g test n (λ o less. same o (omega arith)))
+    ∙ ap (λ xs. passed g test n ++ xs) here
+    ∙ sym (passed_more g test n (test n) refl)
+    ∙ ap (passed g test) (sym next)
+
 -- the same behind others
 module _ {X : Type 0} (f : ℕ → X) (test : ℕ → Bool) (n : ℕ) (items now old : List X) (before : items ≡ old ++ passed f test n) where
   pub passed_on : test n ≡ true → now ≡ items ++ f n ∷ [] → now ≡ old ++ passed f test (n + 1)

@@ -1,1 +1,2 @@
 pub mod ItemSets
+pub mod Waiting

@@ -7,3 +7,4 @@ mod pairs;
 mod parts;
 mod visit_table;
 mod visits;
+mod waiting;
