@@ -3,3 +3,4 @@ pub mod SetLemmas
 pub mod VisitLemmas
 pub mod PairLemmas
 pub mod WaitingLemmas
+pub mod ReadyLemmas

@@ -2,6 +2,7 @@
 //! Pennings, Generating Incremental Attribute Evaluators (1994).
 #![tactic(auto)]
 
+mod greedy;
 mod item_set;
 mod pairs;
 mod parts;
