@@ -4,3 +4,4 @@ pub mod VisitLemmas
 pub mod PairLemmas
 pub mod WaitingLemmas
 pub mod ReadyLemmas
+pub mod SegmentLemmas

@@ -1,12 +1,13 @@
 -- What stands while a segment is found.
-use Rattle.std.specs.Prelude.{◌≡◌, ℕ, ◌<◌, ◌≤◌, Bool, true, false, List, length, map, take, slice_index_or, All}
+use Rattle.std.specs.Prelude.{◌≡◌, ℕ, ◌+◌, ◌-◌, ◌<◌, ◌≤◌, Bool, true, false, List, ◌++◌, length, map, take, slice_index_or, All}
 use Rattle.std.specs.List.{list_all}
 use Rattle.lrc_base.specs.declared.grammar.Sort.{Sort}
 use Rattle.lrc_base.specs.declared.grammar.Production.{Production}
 use Rattle.lrc_order.specs.declared.Partition.{Partition}
 use Rattle.lrc_sequence.specs.declared.Step.{Step}
+use Rattle.lrc_sequence.specs.Items.{visits_of}
 use Rattle.lrc_sequence.specs.Plans.{step_of}
-use Rattle.lrc_sequence.specs.Sequences.{State}
+use Rattle.lrc_sequence.specs.Sequences.{State, segments_from, segments_of}
 use Rattle.lrc_plan.specs.declared.waiting.Waiting.{Waiting}
 use Rattle.lrc_plan.specs.ItemSets.{Flags, holds, HasRoom, IsSetOf}
 use Rattle.lrc_plan.specs.Waiting.{waiting_of}
@@ -44,3 +45,15 @@ pub record StandsFor (sorts : List Sort) (parts : List Partition) (p : Productio
   pub left_is : map unchecked left ≡ map (waiting_of sorts parts p) s.left
   pub available_is : IsSetOf f s.available
   pub steps_are : steps ≡ map (step_of sorts parts p) s.done
+
+-- what is left and the set stand for a state
+pub record StandsAt (sorts : List Sort) (parts : List Partition) (p : Production) (left : List Waiting) (f : Flags) (s : State) : Type 0 where
+  pub left_is : map unchecked left ≡ map (waiting_of sorts parts p) s.left
+  pub available_is : IsSetOf f s.available
+
+-- so many segments were found, and these were left to find
+pub record FoundSo (sorts : List Sort) (parts : List Partition) (p : Production) (left : List Waiting) (f : Flags) (segments : List (List Step)) (earlier : ℕ) : Type 0 where
+  pub state : State
+  pub stands : StandsAt sorts parts p left f state
+  pub rest : segments ++ map (map (step_of sorts parts p)) (segments_from sorts parts p (visits_of parts p.left - earlier) (earlier + 1) state)
+      ≡ map (map (step_of sorts parts p)) (segments_of sorts parts p)

@@ -6,6 +6,7 @@ mod greedy;
 mod item_set;
 mod pairs;
 mod parts;
+mod segments;
 mod visit_table;
 mod visits;
 mod waiting;
