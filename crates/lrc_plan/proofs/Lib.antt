@@ -5,3 +5,4 @@ pub mod PairLemmas
 pub mod WaitingLemmas
 pub mod ReadyLemmas
 pub mod SegmentLemmas
+pub mod GainLemmas

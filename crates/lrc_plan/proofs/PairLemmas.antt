@@ -23,6 +23,15 @@ flat_range_more f old items now n before one =
     ∙ ap (λ xs. flat_map f (range_with_len 0 n) ++ xs) (append-nil (f n)) in
     one ∙ ap (λ xs. xs ++ f n) before ∙ append_assoc old (flat_map f (range_with_len 0 n)) (f n) ∙ ap (λ xs. old ++ xs) (sym more)
 
+pub flat_row_more : {X : Type 0} (f : ℕ → List X) (old items now : List X) (a n k : ℕ) → items ≡ old ++ flat_map f (range_with_len a n) → now ≡ items ++ f k → a + n ≡ k
+    → now ≡ old ++ flat_map f (range_with_len a (n + 1))
+flat_row_more f old items now a n k before one at =
+    let more : flat_map f (range_with_len a (n + 1)) ≡ flat_map f (range_with_len a n) ++ f k =
+    ap (flat_map f) (range_more a n ∙ ap (λ m. range_with_len a n ++ m ∷ []) at)
+    ∙ flat_map-append f (range_with_len a n) (k ∷ [])
+    ∙ ap (λ xs. flat_map f (range_with_len a n) ++ xs) (append-nil (f k)) in
+    one ∙ ap (λ xs. xs ++ f k) before ∙ append_assoc old (flat_map f (range_with_len a n)) (f k) ∙ ap (λ xs. old ++ xs) (sym more)
+
 map_same : {X : Type 0} (f g : ℕ → X) (a n t : ℕ) → t < a → ((o : ℕ) → ¬ (o ≡ t) → g o ≡ f o) → map f (range_with_len a n) ≡ map g (range_with_len a n)
 map_same f g a zero t less same = refl
 map_same f g a (suc n) t less same =

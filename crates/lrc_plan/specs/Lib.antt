@@ -1,3 +1,5 @@
 pub mod ItemSets
 pub mod Waiting
 pub mod Running
+pub mod Handing
+pub mod Gaining

@@ -2,6 +2,8 @@
 //! Pennings, Generating Incremental Attribute Evaluators (1994).
 #![tactic(auto)]
 
+mod bindings;
+mod gaining;
 mod greedy;
 mod item_set;
 mod pairs;
