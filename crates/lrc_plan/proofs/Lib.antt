@@ -6,3 +6,4 @@ pub mod WaitingLemmas
 pub mod ReadyLemmas
 pub mod SegmentLemmas
 pub mod GainLemmas
+pub mod InLemmas

@@ -1,14 +1,24 @@
 -- What the visits of a production's left side gain and use, by their steps.
-use Rattle.std.specs.Prelude.{◌≡◌, ℕ, ◌+◌, ◌<◌, ◌≤◌, true, false, List, [], ◌++◌, flat_map, length, slice_index, slice_index_or, ⊤}
+use Rattle.std.specs.Prelude.{◌≡◌, ℕ, ◌+◌, ◌<◌, ◌≤◌, true, false, List, [], ◌++◌, flat_map, length, map, slice_index, slice_index_or}
 use Rattle.lrc_base.specs.declared.grammar.Sort.{Sort}
+use Rattle.lrc_base.specs.declared.grammar.Production.{Production}
+use Rattle.lrc_meaning.specs.Grammar.{occurrences_of}
 use Rattle.lrc_order.specs.declared.Partition.{Partition}
+use Rattle.lrc_order.specs.declared.Place.{Place}
+use Rattle.lrc_order.specs.Needs.{symbols_of}
 use Rattle.lrc_sequence.specs.declared.Bound.{Bound}
 use Rattle.lrc_sequence.specs.declared.Bound.TheVariants as b
 use Rattle.lrc_sequence.specs.declared.Step.{Step}
-use Rattle.lrc_sequence.specs.Items.{values_of_visit}
+use Rattle.lrc_sequence.specs.Items.{visits_of, values_of_visit}
 use Rattle.lrc_plan.specs.declared.gaining.Shape.{Shape}
 use Rattle.lrc_plan.specs.ItemSets.{Flags, IsSetOf}
 use Rattle.lrc_plan.specs.Handing.{no_items}
+
+abbrev pub shape_of : List Sort → List Partition → Production → Shape
+shape_of sorts parts p = record {
+  occurrences = length (occurrences_of sorts p);
+  visits = map (λ (place : Place). visits_of parts place.sort) (symbols_of sorts p);
+}
 
 -- an item by its numbers
 abbrev pub IsIn : Shape → Bound → Type 0
