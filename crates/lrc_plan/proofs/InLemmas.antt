@@ -8,13 +8,13 @@ use Rattle.std.proofs.lemmas.List.FromFn.{get_or-range_with_len, length-range_wi
 use Rattle.std.proofs.lemmas.List.Elements.{All-nil, All-cons, All-append, All-map, All-filter, All-weaker, All-contains}
 use Rattle.lrc_base.specs.declared.grammar.Sort.{Sort}
 use Rattle.lrc_base.specs.declared.grammar.Production.{Production}
-use Rattle.lrc_meaning.specs.Grammar.{attrs_of_sort, occurrences_of, is_production_right}
+use Rattle.lrc_meaning.specs.Grammar.{Grammar, attrs_of_sort, occurrences_of, is_production_right, is_well_formed}
 use Rattle.lrc_order.specs.declared.Need.{Need}
 use Rattle.lrc_order.specs.declared.Partition.{Partition}
 use Rattle.lrc_order.specs.declared.Place.{Place}
 use Rattle.lrc_order.specs.Needs.{need, symbols_of, left_place, places_of, needs_of, equation_needs, tree_needs}
 use Rattle.lrc_ordered.proofs.PlaceLemmas.{IsWithin, places_within}
-use Rattle.lrc_ordered.proofs.RangeLemmas.{all_flat, IsPlaced, places_placed, IsNeedWithin, needs_within}
+use Rattle.lrc_ordered.proofs.RangeLemmas.{all_flat, IsPlaced, places_placed, IsNeedWithin, needs_within, production_right}
 use Rattle.lrc_sequence.specs.declared.Action.{Action}
 use Rattle.lrc_sequence.specs.declared.Action.TheVariants as a
 use Rattle.lrc_sequence.specs.declared.Bound.{Bound}
@@ -140,3 +140,6 @@ module _ (sorts : List Sort) (parts : List Partition) (prods : List Production) 
       (All-weaker (IsNeedWithin total) (λ (n : Need). n.then < total) (λ n h. h.1) (needs_of sorts p) (needs_within sorts prods p right))
       (all_flat (ordered_at sorts parts) (λ (n : Need). n.then < total) (places_of sorts p)
       (All-weaker (IsWithin sorts total) (λ place. All (λ (n : Need). n.then < total) (ordered_at sorts parts place)) ordered_in (places_of sorts p) (places_within sorts p)))
+
+pub production_is_right : (g : Grammar) → IsTrue (is_well_formed g) → (p : Production) → Contains g.prods p → is_production_right g.sorts g.prods p ≡ true
+production_is_right g well p there = All-contains (λ q. is_production_right g.sorts g.prods q ≡ true) g.prods p (production_right g well) there

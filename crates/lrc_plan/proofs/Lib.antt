@@ -7,3 +7,5 @@ pub mod ReadyLemmas
 pub mod SegmentLemmas
 pub mod GainLemmas
 pub mod InLemmas
+pub mod BindingLemmas
+pub mod FewLemmas

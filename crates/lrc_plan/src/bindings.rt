@@ -100,7 +100,6 @@ pub fn bindings(
     gained: &[ItemSet],
     used: &[ItemSet],
 ) -> Result<List<List<List<Bound>>>, Memory>
-    requires { length gained.now < 2 ^ 32 }
     ensures { IfOk result (λ lists. lists ≡ all_shared items.now gained.now used.now) }
 {
     let mut lists = List::new(alloc);

@@ -85,18 +85,19 @@ pub fn all_gained(
     sorts: &[Sort],
     parts: &[Partition],
     left: u32,
+    visits: u32,
     segments: &[List<Step>],
 ) -> Result<Vec<ItemSet>, Memory>
     requires few { length (attrs_of_sort sorts.now left) < 2 ^ 32 }
-    requires few_visits { length segments.now < 2 ^ 32 }
+    requires visits { visits ≡ length segments.now }
     requires values { (v : ℕ) → All (IsIn shape.now) (values_of_visit sorts.now parts.now true left 0 v) }
     requires makes { All (λ steps. All (λ (s : sequence_step.Step). All (IsIn shape.now) s.makes) steps) segments.now }
     ensures { IfOk result (λ sets. AreSetsOf (gained_by sorts.now parts.now left) segments.now sets.items) }
 {
     let mut sets = Vec::new(alloc);
-    'visits: for earlier in 0..segments.len() {
-        let steps = segments[earlier].as_slice();
-        sets.push(gained(alloc, shape, sorts, parts, left, earlier as u32 + 1, steps)?)?;
+    'visits: for earlier in 0..visits {
+        let steps = segments[earlier as usize].as_slice();
+        sets.push(gained(alloc, shape, sorts, parts, left, earlier + 1, steps)?)?;
     }
     Ok(sets)
 }
@@ -108,18 +109,19 @@ pub fn all_used(
     sorts: &[Sort],
     parts: &[Partition],
     left: u32,
+    visits: u32,
     segments: &[List<Step>],
 ) -> Result<Vec<ItemSet>, Memory>
     requires few { length (attrs_of_sort sorts.now left) < 2 ^ 32 }
-    requires few_visits { length segments.now < 2 ^ 32 }
+    requires visits { visits ≡ length segments.now }
     requires values { (v : ℕ) → All (IsIn shape.now) (values_of_visit sorts.now parts.now false left 0 v) }
     requires needs { All (λ steps. All (λ (s : sequence_step.Step). All (IsIn shape.now) s.needs) steps) segments.now }
     ensures { IfOk result (λ sets. AreSetsOf (used_by sorts.now parts.now left) segments.now sets.items) }
 {
     let mut sets = Vec::new(alloc);
-    'visits: for earlier in 0..segments.len() {
-        let steps = segments[earlier].as_slice();
-        sets.push(used(alloc, shape, sorts, parts, left, earlier as u32 + 1, steps)?)?;
+    'visits: for earlier in 0..visits {
+        let steps = segments[earlier as usize].as_slice();
+        sets.push(used(alloc, shape, sorts, parts, left, earlier + 1, steps)?)?;
     }
     Ok(sets)
 }

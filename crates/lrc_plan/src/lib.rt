@@ -9,6 +9,7 @@ mod item_set;
 mod pairs;
 mod parts;
 mod segments;
+mod sequences;
 mod visit_table;
 mod visits;
 mod waiting;
