@@ -3,3 +3,4 @@ pub mod Waiting
 pub mod Running
 pub mod Handing
 pub mod Gaining
+pub mod Planned

@@ -8,8 +8,14 @@ mod greedy;
 mod item_set;
 mod pairs;
 mod parts;
+mod planning;
 mod segments;
+mod sequenced;
 mod sequences;
 mod visit_table;
 mod visits;
 mod waiting;
+
+pub use lrc_sequence::{Action, Bound, Sequences, Step};
+pub use planning::plan;
+pub use sequenced::Plan;
