@@ -9,3 +9,4 @@ pub mod GainLemmas
 pub mod InLemmas
 pub mod BindingLemmas
 pub mod FewLemmas
+pub mod ReadLemmas
