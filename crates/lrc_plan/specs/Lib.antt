@@ -4,3 +4,4 @@ pub mod Running
 pub mod Handing
 pub mod Gaining
 pub mod Planned
+pub mod Text
