@@ -17,6 +17,7 @@ use Rattle.lrc_order.specs.declared.Place.{Place}
 use Rattle.lrc_order.specs.Needs.{symbol_of, kid_symbols, extra_symbols, own_end, kids_end, symbols_of, left_place, places_of}
 use Rattle.lrc_ordered.proofs.PlaceLemmas.{IsWithin, places_within}
 use Rattle.lrc_ordered.proofs.RangeLemmas.{all_pass}
+use Rattle.lrc_ordered.proofs.OrderLemmas.{few_attrs}
 use Rattle.lrc_ordered.proofs.SmallLemmas.{few_is_small}
 use Rattle.lrc_sequence.specs.declared.Bound.{Bound}
 use Rattle.lrc_sequence.specs.Items.{values_of_visit, extended_of}
@@ -26,6 +27,14 @@ use Rattle.lrc_plan.specs.Waiting.{waiting_of}
 use Rattle.lrc_plan.specs.ItemSets.{Flags, HasRoom, HasRoomFor}
 use Rattle.lrc_plan.specs.Gaining.{shape_of, IsIn}
 use Rattle.lrc_plan.proofs.InLemmas.{production_is_right, has_room, left_values_in, actions_in, IsActionIn, extended_in}
+
+-- a grammar has few sorts, and each has few attributes
+module _ (g : Grammar) (kept : IsTrue (keeps_limits g)) where
+  pub few_sorts : length g.sorts < 2 ^ 32
+  few_sorts = let le = leb-true (length g.sorts) 64 (and_parts _ _ (and_parts _ _ kept).0).0 in omega arith
+
+  pub few_attributes : (s : ℕ) → length (attrs_of_sort g.sorts s) < 2 ^ 32
+  few_attributes s = let few = few_attrs g.sorts s (few_is_small g kept).attributes in omega arith
 
 one_symbol : (kind : Kind) (start : ℕ) (tree : Option ℕ) → length (symbol_of kind start tree) ≤ 1
 one_symbol k.Int start tree = zero-le

@@ -93,3 +93,12 @@ pub all_front : {X : Type 0} (P : X → Type 0) (xs ys : List X) → All P (xs +
 all_front P xs ys all k d less =
     let more = length-append xs ys in
     subst P (get_or_append_left xs ys d k less) (all k d (omega arith))
+
+pub flat_list_more : {X Y : Type 0} (f : X → List Y) (xs : List X) (i : ℕ) (x : X) (items now : List Y) → i < length xs → x ≡ get_or xs i x
+    → items ≡ flat_map f (take i xs) → now ≡ items ++ f x → now ≡ flat_map f (take (i + 1) xs)
+flat_list_more f xs i x items now there is before one =
+    one
+    ∙ ap (λ ys. ys ++ f x) before
+    ∙ sym (ap (flat_map f) (take_more xs i x there ∙ ap (λ z. take i xs ++ z ∷ []) (sym is))
+    ∙ flat_map-append f (take i xs) (x ∷ [])
+    ∙ ap (λ ys. flat_map f (take i xs) ++ ys) (append-nil (f x)))

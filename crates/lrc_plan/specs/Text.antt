@@ -1,5 +1,6 @@
 -- The texts of a plan: the visits of each sort, and the segments and bindings of each production.
-use Rattle.std.specs.Prelude.{ℕ, ◌+◌, ◌-◌, Bool, true, false, cond, List, [], ◌∷◌, ◌++◌, map, flat_map, filter, length, slice_index_or, codes, decimal}
+use Rattle.std.specs.Prelude.{ℕ, ◌+◌, ◌-◌, Bool, true, false, cond, List, [], ◌∷◌, ◌++◌, map, flat_map, filter, length, slice_get, slice_index_or, codes, decimal}
+use Rattle.std.specs.Option.{option_map_or}
 use Rattle.std.specs.List.{range_with_len}
 use Rattle.lrc_base.specs.declared.grammar.Attr.{Attr}
 use Rattle.lrc_base.specs.declared.grammar.Kind.{Kind}
@@ -101,19 +102,18 @@ production_lines sorts p found =
 abbrev pub plan_text : Grammar → List Partition → List ℕ
 plan_text g parts = flat_map (λ p. production_lines g.sorts p (sequences_of g.sorts parts p)) g.prods
 
--- names with a comma between them
-abbrev pub comma_joined : List (List ℕ) → List ℕ
-comma_joined [] = []
-comma_joined (x ∷ xs) = x ++ flat_map (λ y. codes "," ++ y) xs
-
--- the names of attributes by number
+-- the name of an attribute by its number
 abbrev pub attr_name : List Attr → ℕ → List ℕ
-attr_name attrs x = name_at (map (λ (y : Attr). y.name) attrs) x
+attr_name attrs x = option_map_or (λ (found : Attr). found.name) (slice_get attrs x) []
+
+-- names of attributes with a comma between them
+abbrev pub comma_joined : List Attr → List ℕ → List ℕ
+comma_joined attrs [] = []
+comma_joined attrs (x ∷ xs) = attr_name attrs x ++ flat_map (λ y. codes "," ++ attr_name attrs y) xs
 
 -- the attributes of a direction that a visit has
 abbrev pub visit_names : List Sort → List Partition → ℕ → ℕ → Bool → List ℕ
-visit_names sorts parts s v inherited =
-    comma_joined (map (attr_name (attrs_of_sort sorts s)) (attrs_of_visit sorts parts inherited s v))
+visit_names sorts parts s v inherited = comma_joined (attrs_of_sort sorts s) (attrs_of_visit sorts parts inherited s v)
 
 -- ` [inherited,..>synthesised,..]`
 abbrev pub visit_text : List Sort → List Partition → ℕ → ℕ → List ℕ
@@ -123,7 +123,7 @@ visit_text sorts parts s v =
 -- a sort's name and its visits
 abbrev pub sort_text : List Sort → List Partition → ℕ → List ℕ
 sort_text sorts parts s =
-    name_at (map (λ (x : Sort). x.name) sorts) s
+    option_map_or (λ (found : Sort). found.name) (slice_get sorts s) []
     ++ (flat_map (visit_text sorts parts s) (range_with_len 1 (visits_of parts s)) ++ line_feed)
 
 -- The text of the partitions.

@@ -4,7 +4,7 @@ use Rattle.lrc_sequence.specs.declared.Bound.{Bound}
 use Rattle.lrc_ordered.proofs.GatherLemmas.{same_item}
 use Rattle.lrc_plan.specs.Text.{segment_line, binding_line, later_lines}
 use Rattle.lrc_plan.proofs.PairLemmas.{flat_range_more}
-use Rattle.lrc_plan.proofs.text.push_bindings.Goals as goal
+use Rattle.lrc_plan.proofs.plan_texts.push_bindings.Goals as goal
 
 pub visits-preserved : goal.visits-preserved
 visits-preserved c =
