@@ -1,2 +1,4 @@
 pub mod ItemLemmas
 pub mod GreedyLemmas
+pub mod MemberLemmas
+pub mod ReadyLemmas
