@@ -10,3 +10,4 @@ pub mod InLemmas
 pub mod BindingLemmas
 pub mod FewLemmas
 pub mod ReadLemmas
+pub mod ListedLemmas
