@@ -24,3 +24,6 @@ pub use parts_texts::parts_text;
 pub use planning::plan;
 pub use sequenced::Plan;
 pub use plan_texts::plan_text;
+
+#[cfg(test)]
+mod tests;
