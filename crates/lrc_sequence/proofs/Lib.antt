@@ -2,3 +2,4 @@ pub mod ItemLemmas
 pub mod GreedyLemmas
 pub mod MemberLemmas
 pub mod ReadyLemmas
+pub mod ExtendedLemmas

@@ -73,3 +73,34 @@ in_row a (suc n) x low high =
       | inl e ↦ subst (λ z. Contains (a ∷ range_with_len (a + 1) n) z) e (in_head a (range_with_len (a + 1) n))
       | inr ne ↦ in_tail a x (range_with_len (a + 1) n) (in_row (a + 1) n x (omega arith) (omega arith))
     ]
+
+-- what was mapped to the member
+pub from_map : {X Y : Type 0} (f : X → Y) (xs : List X) (y : Y) → Contains (map f xs) y → (x : X) × Contains xs x × (f x ≡ y)
+from_map f [] y c = let l = c.1 in absurd (omega arith)
+from_map f (x ∷ xs) y c =
+    elim (cases_of (f x) y (map f xs) c) [
+      | inl e ↦ (x, in_head x xs, e)
+      | inr m ↦ let r = from_map f xs y m in (r.0, in_tail x r.0 xs r.1, r.2)
+    ]
+
+from_filter_over : {X : Type 0} (p : X → Bool) (y x : X) (ys : List X) (b : Bool) → p y ≡ b → Contains (cond b (y ∷ filter p ys) (filter p ys)) x
+    → ((y ≡ x) × (p x ≡ true)) ⊎ Contains (filter p ys) x
+from_filter_over p y x ys true e c =
+    elim (cases_of y x (filter p ys) c) [ inl same ↦ inl (same, ap p (sym same) ∙ e) | inr m ↦ inr m ]
+from_filter_over p y x ys false e c = inr c
+
+pub from_filter : {X : Type 0} (p : X → Bool) (xs : List X) (x : X) → Contains (filter p xs) x → Contains xs x × (p x ≡ true)
+from_filter p [] x c = let l = c.1 in absurd (omega arith)
+from_filter p (y ∷ ys) x c =
+    elim (from_filter_over p y x ys (p y) refl c) [
+      | inl here ↦ (subst (λ z. Contains (y ∷ ys) z) here.0 (in_head y ys), here.1)
+      | inr m ↦ let r = from_filter p ys x m in (in_tail y x ys r.0, r.1)
+    ]
+
+pub from_row : (a n x : ℕ) → Contains (range_with_len a n) x → (a ≤ x) × (x < a + n)
+from_row a zero x c = let l = c.1 in absurd (omega arith)
+from_row a (suc n) x c =
+    elim (cases_of a x (range_with_len (a + 1) n) c) [
+      | inl e ↦ (omega arith, omega arith)
+      | inr m ↦ let r = from_row (a + 1) n x m in let low = r.0 in let high = r.1 in (omega arith, omega arith)
+    ]
