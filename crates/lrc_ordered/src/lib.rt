@@ -24,6 +24,8 @@ mod visits;
 
 pub use faults::OrderFault;
 pub use induce::{Tables, acyclic_induced};
+pub use needs::{needs_of, push_equation_needs};
 pub use order_test::{ordered, ordered_with};
 pub use partitions::Partitions;
+pub use places::places_of;
 pub use small::{are_given_there, few_is_small};

@@ -53,7 +53,11 @@ fn push_reads_of_each(needs: &mut List<Need>, args: &[Expr], target: u32) -> Res
 }
 
 /// Puts the needs of equations behind the others.
-fn push_equation_needs(needs: &mut List<Need>, equations: &[Equation]) -> Result<(), Memory>
+///
+/// # Errors
+///
+/// Want of memory.
+pub fn push_equation_needs(needs: &mut List<Need>, equations: &[Equation]) -> Result<(), Memory>
     ensures { OnOk result (needs.new ≡ needs.old ++ flat_map equation_needs equations.now) }
 {
     for equation in equations {

@@ -1,0 +1,13 @@
+pub mod AtLemmas
+pub mod SetLemmas
+pub mod VisitLemmas
+pub mod PairLemmas
+pub mod WaitingLemmas
+pub mod ReadyLemmas
+pub mod SegmentLemmas
+pub mod GainLemmas
+pub mod InLemmas
+pub mod BindingLemmas
+pub mod FewLemmas
+pub mod ReadLemmas
+pub mod ListedLemmas

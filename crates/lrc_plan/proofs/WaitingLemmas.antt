@@ -1,0 +1,89 @@
+-- The actions that wait are those of the definition.
+use Rattle.std.proofs.Common.{◌≡◌, ℕ, ◌+◌, ◌<◌, ◌++◌, List, [], ◌∷◌, length, map, get_or, Some, false, refl, sym, ap, ◌∙◌, arith}
+use Rattle.std.specs.Prelude.{filter, flat_map}
+use Rattle.std.specs.List.{range_with_len}
+use Rattle.std.specs.Option.{option_map_or}
+use Rattle.std.proofs.lemmas.Option.{slice_get-get_or}
+use Rattle.std.proofs.lemmas.List.{map-append}
+use Rattle.std.proofs.lemmas.List.FromFn.{get_or-map-range_with_len, length-map-range_with_len}
+use Rattle.lrc_base.specs.declared.grammar.Sort.{Sort}
+use Rattle.lrc_base.specs.declared.grammar.Production.{Production}
+use Rattle.lrc_meaning.specs.Grammar.{Occurrence, occurrences_of}
+use Rattle.lrc_order.specs.declared.Partition.{Partition}
+use Rattle.lrc_order.specs.declared.Place.{Place}
+use Rattle.lrc_order.specs.Needs.{symbols_of, left_place, equation_needs}
+use Rattle.lrc_sequence.specs.declared.Action.{Action}
+use Rattle.lrc_sequence.specs.declared.Action.TheVariants as a
+use Rattle.lrc_sequence.specs.declared.Bound.{Bound}
+use Rattle.lrc_sequence.specs.declared.Bound.TheVariants as item
+use Rattle.lrc_sequence.specs.Items.{visits_of, symbol_at, firsts_of, extended_of}
+use Rattle.lrc_sequence.specs.Sequences.{is_defined, visits_at, actions_of}
+use Rattle.lrc_ordered.proofs.GatherLemmas.{same_item}
+use Rattle.lrc_plan.specs.declared.waiting.Waiting.{Waiting}
+use Rattle.lrc_plan.specs.Waiting.{waiting_of, waiting_evaluation, waiting_visit}
+use Rattle.lrc_plan.proofs.VisitLemmas.{passed, passed_same}
+
+pub map_twice : {X Y Z : Type 0} (f : Y → Z) (g : X → Y) (xs : List X) → map f (map g xs) ≡ map (λ x. f (g x)) xs
+map_twice f g [] = refl
+map_twice f g (x ∷ xs) = ap (λ ys. f (g x) ∷ ys) (map_twice f g xs)
+
+pub map_flat : {X Y Z : Type 0} (f : Y → Z) (g : X → List Y) (xs : List X) → map f (flat_map g xs) ≡ flat_map (λ x. map f (g x)) xs
+map_flat f g [] = refl
+map_flat f g (x ∷ xs) = map-append f (g x) (flat_map g xs) ∙ ap (λ ys. map f (g x) ++ ys) (map_flat f g xs)
+
+pub defined_at : (occurrences : List Occurrence) (i : ℕ) (x : Occurrence) → i < length occurrences → x ≡ get_or occurrences i x → is_defined occurrences i ≡ x.is_defined
+defined_at occurrences i x there is =
+    ap (λ found. option_map_or (λ (o : Occurrence). o.is_defined) found false) (slice_get-get_or occurrences i x there ∙ ap Some (sym is))
+
+pub evaluation_made : (needs awaits : List (List Bound)) (o : ℕ) (needed awaited : List Bound) → o < length needs → o < length awaits
+    → needed ≡ get_or needs o needed → awaited ≡ get_or awaits o awaited
+    → record { step = record { action = a.Eval o; needs = needed; makes = item.Value o ∷ [] }; awaits = awaited; checked = 0 } ≡ waiting_evaluation needs awaits o
+evaluation_made needs awaits o needed awaited one other n w =
+    let x = n ∙ same_item needs o needed [] one in
+    let y = w ∙ same_item awaits o awaited [] other in
+    ap (λ (list : List Bound). record { step = record { action = a.Eval o; needs = list; makes = item.Value o ∷ [] }; awaits = awaited; checked = 0 }) x
+    ∙ ap (λ (list : List Bound). record { step = record { action = a.Eval o; needs = get_or needs o []; makes = item.Value o ∷ [] }; awaits = list; checked = 0 }) y
+
+module _ (sorts : List Sort) (parts : List Partition) (p : Production) where
+  pub symbol_found : (symbols : List Place) (s : ℕ) (d : Place) → symbols ≡ symbols_of sorts p → s < length symbols → get_or symbols s d ≡ symbol_at sorts p s
+  symbol_found symbols s d are there =
+      same_item symbols s d (left_place p) there ∙ ap (λ (all : List Place). get_or all s (left_place p)) are
+
+  pub visits_wait : (symbols : List Place) (s : ℕ) (d : Place) → symbols ≡ symbols_of sorts p → s < length symbols
+      → map (waiting_visit sorts parts (get_or symbols s d) s) (range_with_len 1 (visits_of parts (get_or symbols s d).sort))
+      ≡ map (waiting_of sorts parts p) (visits_at sorts parts p s)
+  visits_wait symbols s d are there =
+      ap (λ (place : Place). map (waiting_visit sorts parts place s) (range_with_len 1 (visits_of parts place.sort))) (symbol_found symbols s d are there)
+      ∙ sym (map_twice (waiting_of sorts parts p) (a.Visit s) (range_with_len 1 (visits_of parts (symbol_at sorts p s).sort)))
+
+  abbrev total : ℕ
+  total = length (occurrences_of sorts p)
+
+  pub evaluations_wait : (needs awaits : List (List Bound)) → needs ≡ map (firsts_of (flat_map equation_needs p.equations)) (range_with_len 0 total)
+      → awaits ≡ map (firsts_of (extended_of sorts parts p)) (range_with_len 0 total)
+      → passed (waiting_evaluation needs awaits) (is_defined (occurrences_of sorts p)) total
+      ≡ passed (λ o. waiting_of sorts parts p (a.Eval o)) (is_defined (occurrences_of sorts p)) total
+  evaluations_wait needs awaits needs_are awaits_are =
+      passed_same (waiting_evaluation needs awaits) (λ o. waiting_of sorts parts p (a.Eval o)) (is_defined (occurrences_of sorts p)) total
+      (λ o less.
+      let n : get_or needs o [] ≡ firsts_of (flat_map equation_needs p.equations) o =
+      ap (λ (all : List (List Bound)). get_or all o []) needs_are
+      ∙ get_or-map-range_with_len (firsts_of (flat_map equation_needs p.equations)) 0 total o o [] less (omega arith) in
+      let w : get_or awaits o [] ≡ firsts_of (extended_of sorts parts p) o =
+      ap (λ (all : List (List Bound)). get_or all o []) awaits_are
+      ∙ get_or-map-range_with_len (firsts_of (extended_of sorts parts p)) 0 total o o [] less (omega arith) in
+      cc)
+
+  pub all_wait : (waiting all : List Waiting)
+      → waiting ≡ map (λ o. waiting_of sorts parts p (a.Eval o)) (filter (is_defined (occurrences_of sorts p)) (range_with_len 0 total))
+      → all ≡ waiting ++ flat_map (λ s. map (waiting_of sorts parts p) (visits_at sorts parts p s)) (range_with_len 0 (length (symbols_of sorts p)))
+      → all ≡ map (waiting_of sorts parts p) (actions_of sorts parts p)
+  all_wait waiting all are grown =
+      let evals = map a.Eval (filter (is_defined (occurrences_of sorts p)) (range_with_len 0 total)) in
+      let visits = flat_map (visits_at sorts parts p) (range_with_len 0 (length (symbols_of sorts p))) in
+      grown
+      ∙ ap (λ (ws : List Waiting). ws ++ flat_map (λ s. map (waiting_of sorts parts p) (visits_at sorts parts p s)) (range_with_len 0 (length (symbols_of sorts p))))
+      (are ∙ sym (map_twice (waiting_of sorts parts p) a.Eval (filter (is_defined (occurrences_of sorts p)) (range_with_len 0 total))))
+      ∙ ap (λ (ws : List Waiting). map (waiting_of sorts parts p) evals ++ ws)
+      (sym (map_flat (waiting_of sorts parts p) (visits_at sorts parts p) (range_with_len 0 (length (symbols_of sorts p)))))
+      ∙ sym (map-append (waiting_of sorts parts p) evals visits)

@@ -1,0 +1,9 @@
+use Rattle.std.proofs.Common.{◌≡◌, ◌+◌, ◌++◌, ◌&&◌, ◌==◌, map}
+use Rattle.std.specs.Prelude.{filter}
+use Rattle.std.specs.List.{range_with_len}
+use Rattle.lrc_sequence.specs.declared.Bound.TheVariants as b
+use Rattle.lrc_plan.proofs.VisitLemmas.{values_below}
+use Rattle.lrc_plan.proofs.visits.push_values.Given as goal
+
+abbrev pub invariant-attributes : goal.invariant-attributes
+invariant-attributes l = l.items ≡ l.initial.items ++ values_below l.parts l.attrs l.inherited l.place.sort l.place.start l.visit l.attr

@@ -1,0 +1,9 @@
+use Rattle.std.proofs.Common.{◌≡◌, ◌++◌}
+use Rattle.lrc_sequence.specs.Sequences.{is_defined}
+use Rattle.lrc_plan.specs.Waiting.{waiting_evaluation}
+use Rattle.lrc_plan.proofs.VisitLemmas.{passed}
+use Rattle.lrc_plan.proofs.waiting.push_evaluations.Given as goal
+
+abbrev pub invariant-occurrences : goal.invariant-occurrences
+invariant-occurrences l =
+    l.waiting.items ≡ l.initial.waiting.items ++ passed (waiting_evaluation l.needs l.awaits) (is_defined l.occurrences) l.number
