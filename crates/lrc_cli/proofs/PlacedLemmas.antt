@@ -72,7 +72,7 @@ slice_below [] i x e = absurd (cc)
 slice_below (y ∷ ys) zero x e = omega arith
 slice_below (y ∷ ys) (suc i) x e = let rest = slice_below ys i x e in omega arith
 
-among : {A : Type 0} (xs : List A) (i : ℕ) (x : A) → slice_get xs i ≡ Some x → Contains xs x
+pub among : {A : Type 0} (xs : List A) (i : ℕ) (x : A) → slice_get xs i ≡ Some x → Contains xs x
 among xs i x e = let here = slice_below xs i x e in subst (Contains xs) (got xs i x e) (Contains-get_or xs i x here)
   where
     got : {A : Type 0} (xs : List A) (i : ℕ) (x : A) → slice_get xs i ≡ Some x → get_or xs i x ≡ x

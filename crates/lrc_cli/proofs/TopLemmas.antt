@@ -1,5 +1,5 @@
 -- Why an input is refused, and what is told of it.
-use Rattle.std.proofs.Common.{◌≡◌, ℕ, Bool, true, false, ◌<◌, ◌≤◌, ◌*◌, List, [], ◌∷◌, length, take, Option, Some, None, Result, Ok, Err, IfOk, IfErr, IsErrAnd, ◌⊎◌, inl, inr, ◌≢◌, refl, sym, arith, ap, ◌∙◌, subst, IsTrue}
+use Rattle.std.proofs.Common.{◌≡◌, ℕ, Bool, true, false, ◌<◌, ◌≤◌, ◌*◌, List, [], ◌∷◌, length, take, Option, Some, None, Result, Ok, Err, IfOk, IfErr, IsErrAnd, All, MatchBool, ◌⊎◌, inl, inr, ◌≢◌, refl, sym, arith, ap, ◌∙◌, subst, IsTrue}
 use Rattle.std.proofs.lemmas.List.{drop_all, take_all}
 use Rattle.std.proofs.lemmas.Grind.{common_steps}
 use Rattle.std.specs.Prelude.{String}
@@ -7,7 +7,15 @@ use Rattle.std.specs.declared.alloc.Global.{Global}
 use Rattle.std.specs.Io.KnownBytes.{Appends, Keeps}
 use Rattle.lrc_outside.specs.Known.{TakesUpTo, AppendsPart}
 use Rattle.lrc_words.specs.declared.command.Command.{Command}
+use Rattle.lrc_words.specs.declared.command.Verb.{Verb}
 use Rattle.lrc_words.specs.declared.command.Verb.TheVariants as verb
+use Rattle.lrc_base.specs.declared.grammar.Production.{Production}
+use Rattle.lrc_order.specs.Induced.{Leads}
+use Rattle.lrc_order.specs.Extended.{ExtendedPath}
+use Rattle.lrc_order.specs.Ordered.{IsOrdered, IsAcyclic, IsFirstCycle}
+use Rattle.lrc_lines.specs.declared.failure.Cycle.{Cycle}
+use Rattle.std.proofs.lemmas.List.Elements.{All-contains}
+use Rattle.lrc_cli.proofs.PlacedLemmas.{among}
 use Rattle.lrc_words.specs.CommandLine.{Says, IsWithinRanges, AreRefused, texts, verb_of}
 use Rattle.lrc_lines.specs.declared.failure.Failure.{Failure}
 use Rattle.lrc_lines.specs.declared.failure.Failure.TheVariants as f
@@ -25,8 +33,8 @@ use Rattle.lrc_meaning.specs.Tree.{Tree}
 use Rattle.lrc_meaning.specs.Editing.{Change}
 use Rattle.lrc_meaning.specs.Grammar.{Grammar}
 use Rattle.lrc_lines.specs.Taken.{failure_of_text, failure_of_job}
-use Rattle.lrc_cli.specs.Headline.{IsAccepted, IsBuilt, IsRunOf}
-use Rattle.lrc_cli.specs.Causes.{row_limit, IsUnordered, has_cycle, has_no_memory, IsCause, no_job, not_accepted, too_many_rows, no_run, no_partitions, not_ordered, no_memory}
+use Rattle.lrc_cli.specs.Headline.{IsAccepted, IsBuilt, IsRunOf, IsOutputOf, IsBuiltFor}
+use Rattle.lrc_cli.specs.Causes.{row_limit, IsCycleAt, IsUnbuiltVerb, IsBuiltVerb, TellsOrder, IsUnordered, has_cycle, has_no_memory, IsCause, no_job, not_accepted, too_many_rows, no_run, not_ordered, no_memory}
 use Rattle.lrc_cli.proofs.RunLemmas.{OneJob, same_accepted}
 use Rattle.lrc_cli.specs.Status.{input_limit, IsReadWhole, Done, Unwritten, IsRefused, unread, read, Refused, HoldsJob, is_refusal}
 
@@ -36,12 +44,9 @@ keeps_itself (Some xs) = refl
 
 -- a command that is not built is refused before anything is read
 pub not_read : (words : List (String Global)) (left : Option (List ℕ)) (command : Command) (b : Bool) → Says (texts words) command → IsWithinRanges command → b ≡ false
-    → (IsTrue b → (command.verb ≡ verb.Run) ⊎ (command.verb ≡ verb.Check)) × ((command.verb ≡ verb.Run) ⊎ (command.verb ≡ verb.Check) → IsTrue b) → Refused words left left f.NotBuilt
+    → MatchBool b (IsBuiltVerb command.verb) (IsUnbuiltVerb command.verb) → Refused words left left f.NotBuilt
 not_read words left command b says within unbuilt built =
-    record { command = command; says = says; within = within; refused = unread (λ e. contrary (built.1 (inl e)), λ e. contrary (built.1 (inr e))) (keeps_itself left) }
-  where
-    contrary : IsTrue b → ⊥
-    contrary h = absurd (cc)
+    record { command = command; says = says; within = within; refused = unread (subst (λ (x : Bool). MatchBool x (IsBuiltVerb command.verb) (IsUnbuiltVerb command.verb)) unbuilt built) (keeps_itself left) }
 
 -- what may be a cause: a refusal of the input, or want of memory
 abbrev may_be_cause : Failure → Bool
@@ -61,7 +66,6 @@ is_cause command input _ (no_job fault some is none) = refl
 is_cause command input _ (not_accepted job fault some denotes is) = refl
 is_cause command input _ (too_many_rows g sessions accepted run many) = refl
 is_cause command input _ (no_run g sessions accepted run few none) = refl
-is_cause command input _ (no_partitions g sessions accepted check ordered) = refl
 is_cause command input _ (not_ordered g sessions cycle accepted check is) = refl
 is_cause command input _ no_memory = refl
 
@@ -91,32 +95,34 @@ read_whole n (Some xs) left' input t h =
     let short : length xs ≤ n = few n xs (let e = ap length t.0 in omega arith) in
     (t.0 ∙ grind (arith, common_steps), t.1 ∙ ap Some (drop_all n xs short))
 
-short_run : (input text : List ℕ) (depth : ℕ) → IsRunOf input depth text → length input < input_limit
-short_run input text depth r = let short : length input ≤ 16777216 = r.built.accepted.denotes.short in omega arith
+short_output : (v : Verb) (depth : ℕ) (input text : List ℕ) → IsOutputOf v depth input text → length input < input_limit
+short_output verb.Run depth input text r = let short : length input ≤ 16777216 = r.built.accepted.denotes.short in omega arith
+short_output verb.Solo depth input text r = absurd r
+short_output verb.Check depth input text r = let short : length input ≤ 16777216 = r.has.accepted.denotes.short in omega arith
+short_output verb.Plan depth input text r = let short : length input ≤ 16777216 = r.has.accepted.denotes.short in omega arith
+short_output verb.Gen depth input text r = absurd r
 
-pub done : (words : List (String Global)) (left left' held held' : Option (List ℕ)) (command : Command) (input text : List ℕ) → Says (texts words) command → command.verb ≡ verb.Run
-    → TakesUpTo input_limit left left' input → IsRunOf input command.depth text → Appends held held' text → Done words left left' held held'
-done words left left' held held' command input text says run t r a = record {
+pub done : (words : List (String Global)) (left left' held held' : Option (List ℕ)) (command : Command) (input text : List ℕ) → Says (texts words) command
+    → TakesUpTo input_limit left left' input → IsOutputOf command.verb command.depth input text → Appends held held' text → Done words left left' held held'
+done words left left' held held' command input text says t r a = record {
   command = command;
   says = says;
-  verb = run;
   input = input;
   text = text;
-  read = read_whole input_limit left left' input t (short_run input text command.depth r);
-  run = r;
+  read = read_whole input_limit left left' input t (short_output command.verb command.depth input text r);
+  output = r;
   written = a;
 }
 
-pub unwritten : (words : List (String Global)) (left left' held held' : Option (List ℕ)) (command : Command) (input text : List ℕ) → Says (texts words) command → command.verb ≡ verb.Run
-    → TakesUpTo input_limit left left' input → IsRunOf input command.depth text → AppendsPart held held' text → Unwritten words left left' held held'
-unwritten words left left' held held' command input text says run t r a = record {
+pub unwritten : (words : List (String Global)) (left left' held held' : Option (List ℕ)) (command : Command) (input text : List ℕ) → Says (texts words) command
+    → TakesUpTo input_limit left left' input → IsOutputOf command.verb command.depth input text → AppendsPart held held' text → Unwritten words left left' held held'
+unwritten words left left' held held' command input text says t r a = record {
   command = command;
   says = says;
-  verb = run;
   input = input;
   text = text;
-  read = read_whole input_limit left left' input t (short_run input text command.depth r);
-  run = r;
+  read = read_whole input_limit left left' input t (short_output command.verb command.depth input text r);
+  output = r;
   part = a;
 }
 
@@ -177,7 +183,7 @@ is_refusal_of (f.NotOrdered cycle) h = refl
 is_refusal_of f.Memory h = absurd (elim h [ inl e ↦ above 7 5 (omega arith) e | inr e ↦ above 7 6 (omega arith) e ])
 
 -- a grammar that is not ordered is a cause of `check`
-pub unordered_cause : (command : Command) (input : List ℕ) (g : Grammar) (sessions : List Session) (failure : Failure) → IsAccepted input g sessions → command.verb ≡ verb.Check
+pub unordered_cause : (command : Command) (input : List ℕ) (g : Grammar) (sessions : List Session) (failure : Failure) → IsAccepted input g sessions → TellsOrder command
     → IsUnordered g failure → IsCause command input failure
 unordered_cause command input g sessions _ accepted check (has_cycle cycle is) = not_ordered g sessions cycle accepted check is
 unordered_cause command input g sessions _ accepted check has_no_memory = no_memory
@@ -237,35 +243,79 @@ no_fault job g ss (accept.Term s e fault) has some is = two_ways job g is.0 ss _
 no_fault job g ss (accept.NotStart s) has some is = two_ways job g is.0 ss _ has is.1
 no_fault job g ss accept.Memory has some is = absurd (some refl)
 
-not_refused_for : OneJob → (command : Command) (bytes : List ℕ) (g : Grammar) (opening : Tree) (changes : List Change) (failure : Failure) → IsWithinRanges command → command.verb ≡ verb.Run
+runs_tell_nothing : (command : Command) → command.verb ≡ verb.Run → TellsOrder command → ⊥
+runs_tell_nothing command run (inl e) = absurd (cc)
+runs_tell_nothing command run (inr e) = absurd (cc)
+
+-- a grammar that is ordered has no cycle
+no_cycle : (prods : List Production) (Paths : Production → ℕ → ℕ → Type 0) (p x : ℕ) → All (λ q. IsAcyclic (Paths q)) prods → IsFirstCycle prods Paths p x → ⊥
+no_cycle prods Paths p x acyclic c = All-contains (λ q. IsAcyclic (Paths q)) prods c.production acyclic (among prods p c.production c.is_there) x c.least.0
+
+ordered_has_none : (g : Grammar) (cycle : Cycle) (is_extended : Bool) (p x : ℕ) → IsOrdered g [] → IsCycleAt is_extended g p x → ⊥
+ordered_has_none g cycle true p x ordered c = no_cycle g.prods (ExtendedPath g []) p x ordered.extended c.1
+ordered_has_none g cycle false p x ordered c = no_cycle g.prods (Leads g []) p x ordered.induced c
+
+run_not_refused : OneJob → (command : Command) (bytes : List ℕ) (g : Grammar) (opening : Tree) (changes : List Change) (failure : Failure) → IsWithinRanges command → command.verb ≡ verb.Run
     → IsBuilt bytes g opening changes → IsTrue (is_refusal failure) → IsCause command bytes failure → ⊥
-not_refused_for one command bytes g opening changes _ within run b r (no_job fault some is none) = none b.accepted.job b.accepted.denotes
-not_refused_for one command bytes g opening changes _ within run b r (not_accepted job fault some denotes is) =
+run_not_refused one command bytes g opening changes _ within run b r (no_job fault some is none) = none b.accepted.job b.accepted.denotes
+run_not_refused one command bytes g opening changes _ within run b r (not_accepted job fault some denotes is) =
     no_fault job g _ fault (subst (λ (j : Job). HasSessions j g (Ok (record { opening = opening; changes = changes } ∷ []))) (one bytes b.accepted.job job b.accepted.denotes denotes) b.accepted.accepted) some is
-not_refused_for one command bytes g opening changes _ within run b r (too_many_rows h sessions accepted verb many) =
+run_not_refused one command bytes g opening changes _ within run b r (too_many_rows h sessions accepted verb many) =
     let same = same_accepted one bytes h g sessions _ accepted b.accepted in
     few_rows command.rows (length sessions) (ap length same.1) within.rows.1 many
-not_refused_for one command bytes g opening changes _ within run b r (no_run h sessions accepted verb few none) =
+run_not_refused one command bytes g opening changes _ within run b r (no_run h sessions accepted verb few none) =
     let same = same_accepted one bytes h g sessions _ accepted b.accepted in
     none opening changes (subst (λ (z : Grammar). IsBuilt bytes z opening changes) (sym same.0) b)
-not_refused_for one command bytes g opening changes _ within run b r (no_partitions h sessions accepted verb ordered) = absurd (cc)
-not_refused_for one command bytes g opening changes _ within run b r (not_ordered h sessions cycle accepted verb is) = absurd (cc)
-not_refused_for one command bytes g opening changes _ within run b r no_memory = absurd (cc)
+run_not_refused one command bytes g opening changes _ within run b r (not_ordered h sessions cycle accepted tells is) = runs_tell_nothing command run tells
+run_not_refused one command bytes g opening changes _ within run b r no_memory = absurd (cc)
 
-pub not_refused : OneJob → (words : List (String Global)) (command : Command) (left left' : Option (List ℕ)) (failure : Failure) → Says (texts words) command → command.verb ≡ verb.Run → HoldsJob left
+order_not_refused : OneJob → (command : Command) (bytes : List ℕ) (g : Grammar) (ss : List Session) (failure : Failure) → TellsOrder command → IsAccepted bytes g ss → IsOrdered g []
+    → IsTrue (is_refusal failure) → IsCause command bytes failure → ⊥
+order_not_refused one command bytes g ss _ tells b ordered r (no_job fault some is none) = none b.job b.denotes
+order_not_refused one command bytes g ss _ tells b ordered r (not_accepted job fault some denotes is) =
+    no_fault job g ss fault (subst (λ (j : Job). HasSessions j g (Ok ss)) (one bytes b.job job b.denotes denotes) b.accepted) some is
+order_not_refused one command bytes g ss _ tells b ordered r (too_many_rows h sessions accepted run many) = runs_tell_nothing command run tells
+order_not_refused one command bytes g ss _ tells b ordered r (no_run h sessions accepted run few none) = runs_tell_nothing command run tells
+order_not_refused one command bytes g ss _ tells b ordered r (not_ordered h sessions cycle accepted too is) =
+    let same = same_accepted one bytes h g sessions ss accepted b in
+    ordered_has_none h cycle cycle.is_extended is.production is.occurrence (subst (λ (z : Grammar). IsOrdered z []) (sym same.0) ordered) is.found
+order_not_refused one command bytes g ss _ tells b ordered r no_memory = absurd (cc)
+
+not_refused_for : OneJob → (command : Command) (bytes : List ℕ) (v : Verb) → command.verb ≡ v → IsBuiltFor v bytes → (failure : Failure) → IsWithinRanges command
+    → IsTrue (is_refusal failure) → IsCause command bytes failure → ⊥
+not_refused_for one command bytes verb.Run is h failure within r cause = run_not_refused one command bytes h.0 h.1 h.2 failure within is h.3 r cause
+not_refused_for one command bytes verb.Solo is h failure within r cause = h
+not_refused_for one command bytes verb.Check is h failure within r cause = order_not_refused one command bytes h.0 h.1 failure (inl is) h.2 h.3 r cause
+not_refused_for one command bytes verb.Plan is h failure within r cause = order_not_refused one command bytes h.0 h.1 failure (inr is) h.2 h.3 r cause
+not_refused_for one command bytes verb.Gen is h failure within r cause = h
+
+-- a job for which there is something to print is short
+short_job : (v : Verb) (bytes : List ℕ) → IsBuiltFor v bytes → length bytes ≤ 16777216
+short_job verb.Run bytes h = h.3.accepted.denotes.short
+short_job verb.Solo bytes h = absurd h
+short_job verb.Check bytes h = h.2.denotes.short
+short_job verb.Plan bytes h = h.2.denotes.short
+short_job verb.Gen bytes h = absurd h
+
+unbuilt_has_none : (v : Verb) (bytes : List ℕ) → IsBuiltFor v bytes → IsUnbuiltVerb v → ⊥
+unbuilt_has_none v bytes h (inl e) = subst (λ (x : Verb). IsBuiltFor x bytes) e h
+unbuilt_has_none v bytes h (inr e) = subst (λ (x : Verb). IsBuiltFor x bytes) e h
+
+pub not_refused : OneJob → (words : List (String Global)) (command : Command) (left left' : Option (List ℕ)) (failure : Failure) → Says (texts words) command → HoldsJob command left
     → IsTrue (is_refusal failure) → Refused words left left' failure → ⊥
-not_refused one words command None left' failure says run job r refused = job
-not_refused one words command (Some bytes) left' failure says run job r refused = by failure r refused.refused
+not_refused one words command None left' failure says job r refused = job
+not_refused one words command (Some bytes) left' failure says job r refused = by failure r refused.refused
   where
-    verb-is : refused.command.verb ≡ verb.Run
-    verb-is = same_command (texts words) refused.command command refused.says says ∙ run
-
+    same-verb : refused.command.verb ≡ command.verb
+    same-verb = same_command (texts words) refused.command command refused.says says
+    moved : IsBuiltFor refused.command.verb bytes
+    moved = subst (λ (v : Verb). IsBuiltFor v bytes) (sym same-verb) job
     by : (failure : Failure) → IsTrue (is_refusal failure) → IsRefused refused.command (Some bytes) left' failure → ⊥
-    by _ r (unread unbuilt keeps) = unbuilt.0 verb-is
+    by _ r (unread unbuilt keeps) = unbuilt_has_none refused.command.verb bytes moved unbuilt
     by _ r (read input failure taken cause) =
-        let short : length bytes ≤ 16777216 = job.3.accepted.denotes.short in
+        let short = short_job refused.command.verb bytes moved in
         let whole : input ≡ bytes = taken.0 ∙ take_all input_limit bytes (omega arith) in
-        not_refused_for one refused.command bytes job.0 job.1 job.2 failure refused.within verb-is job.3 r (subst (λ (z : List ℕ). IsCause refused.command z failure) whole cause)
+        not_refused_for one refused.command bytes refused.command.verb refl moved failure refused.within r (subst (λ (z : List ℕ). IsCause refused.command z failure) whole cause)
 
 pub if_ok : {T E : Type 0} (r : Result T E) (P Q : T → Type 0) → IfOk r P → ((x : T) → P x → Q x) → IfOk r Q
 if_ok (Ok x) P Q p q = q x p

@@ -1,15 +1,16 @@
 -- Why a job is refused, in the order in which faults are looked for: its text, its acceptance, the rows of its
--- sessions, what is not built yet, and for `check` the ordered test before that.
-use Rattle.std.specs.Prelude.{◌≡◌, ◌≢◌, ℕ, ◌*◌, ◌<◌, ◌≤◌, Bool, true, false, List, [], length, Some, slice_get}
+-- sessions, what is not built yet, and for commands that ask for it the ordered test before that.
+use Rattle.std.specs.Prelude.{◌≡◌, ◌≢◌, ◌⊎◌, ℕ, ◌*◌, ◌<◌, ◌≤◌, Bool, true, false, List, [], length, Some, slice_get}
 use Rattle.lrc_base.specs.declared.job.Job.{Job}
 use Rattle.lrc_base.specs.declared.grammar.Production.{Production}
 use Rattle.lrc_meaning.specs.Tree.{Tree}
 use Rattle.lrc_meaning.specs.Grammar.{Grammar}
 use Rattle.lrc_meaning.specs.Editing.{Change}
 use Rattle.lrc_meaning.specs.Naming.{called_occurrences}
-use Rattle.lrc_order.specs.Ordered.{IsOrdered, IsInducedCycle, IsExtendedCycle}
+use Rattle.lrc_order.specs.Ordered.{IsInducedCycle, IsExtendedCycle}
 use Rattle.lrc_reader.specs.Denotes.{Denotes}
 use Rattle.lrc_words.specs.declared.command.Command.{Command}
+use Rattle.lrc_words.specs.declared.command.Verb.{Verb}
 use Rattle.lrc_words.specs.declared.command.Verb.TheVariants as verb
 use Rattle.lrc_reader.specs.declared.fault.JobFault.{JobFault}
 use Rattle.lrc_reader.specs.declared.fault.JobFault.TheVariants as text
@@ -57,9 +58,20 @@ pub data IsUnordered (g : Grammar) : Failure → Type 0 where
   has_cycle : (cycle : Cycle) → IsCycle g cycle → IsUnordered g (f.NotOrdered cycle)
   has_no_memory : IsUnordered g f.Memory
 
--- nothing of a command is built yet
+-- nothing of the command is built yet
+abbrev pub IsUnbuiltVerb : Verb → Type 0
+IsUnbuiltVerb v = (v ≡ verb.Solo) ⊎ (v ≡ verb.Gen)
+
 abbrev pub IsUnbuilt : Command → Type 0
-IsUnbuilt command = (command.verb ≢ verb.Run) × (command.verb ≢ verb.Check)
+IsUnbuilt command = IsUnbuiltVerb command.verb
+
+-- something of it is
+abbrev pub IsBuiltVerb : Verb → Type 0
+IsBuiltVerb v = (v ≡ verb.Run) ⊎ ((v ≡ verb.Check) ⊎ (v ≡ verb.Plan))
+
+-- the command tells whether a grammar is ordered
+abbrev pub TellsOrder : Command → Type 0
+TellsOrder command = (command.verb ≡ verb.Check) ⊎ (command.verb ≡ verb.Plan)
 
 -- Why the input is refused.
 pub data IsCause (command : Command) (input : List ℕ) : Failure → Type 0 where
@@ -69,7 +81,6 @@ pub data IsCause (command : Command) (input : List ℕ) : Failure → Type 0 whe
       → row_limit < command.rows * length sessions → IsCause command input f.TooManyRows
   no_run : (g : Grammar) (sessions : List Session) → IsAccepted input g sessions → command.verb ≡ verb.Run → command.rows * length sessions ≤ row_limit
       → ((opening : Tree) (changes : List Change) → ¬ IsBuilt input g opening changes) → IsCause command input f.NotBuilt
-  no_partitions : (g : Grammar) (sessions : List Session) → IsAccepted input g sessions → command.verb ≡ verb.Check → IsOrdered g [] → IsCause command input f.NotBuilt
-  not_ordered : (g : Grammar) (sessions : List Session) (cycle : Cycle) → IsAccepted input g sessions → command.verb ≡ verb.Check → IsCycle g cycle
+  not_ordered : (g : Grammar) (sessions : List Session) (cycle : Cycle) → IsAccepted input g sessions → TellsOrder command → IsCycle g cycle
       → IsCause command input (f.NotOrdered cycle)
   no_memory : IsCause command input f.Memory

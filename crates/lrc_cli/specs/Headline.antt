@@ -1,5 +1,5 @@
 -- What a run is: from the bytes of a job to the text of its replies.
-use Rattle.std.specs.Prelude.{◌≡◌, ℕ, Bool, true, false, IsTrue, List, [], ◌∷◌, Option, Ok}
+use Rattle.std.specs.Prelude.{◌≡◌, ℕ, Bool, true, false, IsTrue, List, [], ◌∷◌, ◌++◌, Option, Ok}
 use Rattle.std.specs.List.{list_all}
 use Rattle.lrc_base.specs.declared.job.Job.{Job}
 use Rattle.lrc_meaning.specs.Tree.{Tree}
@@ -9,6 +9,10 @@ use Rattle.lrc_meaning.specs.Editing.{Change, put, copy, show, forget, Reply, Re
 use Rattle.lrc_meaning.specs.Text.{unparsed, run_text}
 use Rattle.lrc_reader.specs.Denotes.{Denotes}
 use Rattle.lrc_job.specs.Job.{Session, HasSessions}
+use Rattle.lrc_order.specs.Ordered.{IsOrdered, Partitions, ArePartitions}
+use Rattle.lrc_plan.specs.Text.{parts_text, plan_text}
+use Rattle.lrc_words.specs.declared.command.Verb.{Verb}
+use Rattle.lrc_words.specs.declared.command.Verb.TheVariants as verb
 
 -- The bytes are a job that is accepted, of this grammar and with these sessions.
 pub record IsAccepted (bytes : List ℕ) (grammar : Grammar) (sessions : List Session) : Type 0 where
@@ -28,6 +32,28 @@ pub record IsBuilt (bytes : List ℕ) (grammar : Grammar) (opening : Tree) (chan
   pub plain : IsTrue (is_plain grammar)
   pub puts : IsTrue (list_all is_put changes)
 
+-- The bytes are an accepted job whose grammar is ordered, and these are its partitions.
+pub record HasPartitions (bytes : List ℕ) (grammar : Grammar) (parts : Partitions) : Type 0 where
+  pub sessions : List Session
+  pub accepted : IsAccepted bytes grammar sessions
+  pub ordered : IsOrdered grammar []
+  pub given : parts.given ≡ []
+  pub partitions : ArePartitions grammar parts
+
+-- The text is that of the partitions of the job's grammar.
+pub record IsPartsOf (bytes text : List ℕ) : Type 0 where
+  pub grammar : Grammar
+  pub parts : Partitions
+  pub has : HasPartitions bytes grammar parts
+  pub prints : text ≡ parts_text grammar parts.sorts
+
+-- The text is that of the partitions, and then of the visit sequences and bindings by them.
+pub record IsPlanOf (bytes text : List ℕ) : Type 0 where
+  pub grammar : Grammar
+  pub parts : Partitions
+  pub has : HasPartitions bytes grammar parts
+  pub prints : text ≡ parts_text grammar parts.sorts ++ plan_text grammar parts.sorts
+
 -- The text is that of a run of the job, whose trees have at most `depth` nodes on their longest path: each reply is the
 -- root's synthesised attributes in an attribution of the session's tree after the edit, or the refusal that the editing
 -- rules name, and then the final line of the last tree.
@@ -40,3 +66,19 @@ pub record IsRunOf (bytes : List ℕ) (depth : ℕ) (text : List ℕ) : Type 0 w
   pub last : Option Tree
   pub runs : ReplyRun grammar depth (unparsed grammar.prods) never_full opening changes replies last
   pub prints : text ≡ run_text grammar (replies ∷ []) (last ∷ [])
+
+-- What a command prints for its input, with this depth.
+abbrev pub IsOutputOf : Verb → ℕ → List ℕ → List ℕ → Type 0
+IsOutputOf verb.Run depth bytes text = IsRunOf bytes depth text
+IsOutputOf verb.Solo depth bytes text = ⊥
+IsOutputOf verb.Check depth bytes text = IsPartsOf bytes text
+IsOutputOf verb.Plan depth bytes text = IsPlanOf bytes text
+IsOutputOf verb.Gen depth bytes text = ⊥
+
+-- The bytes are a job for which the command has something to print.
+abbrev pub IsBuiltFor : Verb → List ℕ → Type 0
+IsBuiltFor verb.Run bytes = (grammar : Grammar) × (opening : Tree) × (changes : List Change) × IsBuilt bytes grammar opening changes
+IsBuiltFor verb.Solo bytes = ⊥
+IsBuiltFor verb.Check bytes = (grammar : Grammar) × (sessions : List Session) × IsAccepted bytes grammar sessions × IsOrdered grammar []
+IsBuiltFor verb.Plan bytes = (grammar : Grammar) × (sessions : List Session) × IsAccepted bytes grammar sessions × IsOrdered grammar []
+IsBuiltFor verb.Gen bytes = ⊥

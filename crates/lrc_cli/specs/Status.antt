@@ -2,16 +2,12 @@
 use Rattle.std.specs.Prelude.{◌≡◌, ℕ, Bool, true, false, List, [], Option, Some, None, ⊤, String}
 use Rattle.std.specs.declared.alloc.Global.{Global}
 use Rattle.std.specs.Io.KnownBytes.{Appends, Keeps}
-use Rattle.lrc_meaning.specs.Tree.{Tree}
-use Rattle.lrc_meaning.specs.Grammar.{Grammar}
-use Rattle.lrc_meaning.specs.Editing.{Change}
 use Rattle.lrc_outside.specs.Known.{TakesUpTo, AppendsPart}
 use Rattle.lrc_words.specs.declared.command.Command.{Command}
-use Rattle.lrc_words.specs.declared.command.Verb.TheVariants as verb
 use Rattle.lrc_words.specs.CommandLine.{Says, IsWithinRanges, texts}
 use Rattle.lrc_lines.specs.declared.failure.Failure.{Failure}
 use Rattle.lrc_lines.specs.declared.failure.Failure.TheVariants as f
-use Rattle.lrc_cli.specs.Headline.{IsBuilt, IsRunOf}
+use Rattle.lrc_cli.specs.Headline.{IsOutputOf, IsBuiltFor}
 use Rattle.lrc_cli.specs.Causes.{IsUnbuilt, IsCause}
 
 -- the most bytes that are read: one more than a job has
@@ -23,27 +19,24 @@ abbrev pub IsReadWhole : Option (List ℕ) → Option (List ℕ) → List ℕ �
 IsReadWhole None after input = ⊤
 IsReadWhole (Some bytes) after input = (input ≡ bytes) × (after ≡ Some [])
 
--- Status 0: the words ask for a run, the source was read to its end, and the sink gained the text of a run of what was
--- read.
+-- Status 0: the source was read to its end, and the sink gained the text that the words ask for of what was read.
 pub record Done (words : List (String Global)) (left left' held held' : Option (List ℕ)) : Type 0 where
   pub command : Command
   pub says : Says (texts words) command
-  pub verb : command.verb ≡ verb.Run
   pub input : List ℕ
   pub text : List ℕ
   pub read : IsReadWhole left left' input
-  pub run : IsRunOf input command.depth text
+  pub output : IsOutputOf command.verb command.depth input text
   pub written : Appends held held' text
 
 -- Status 4: as with status 0, but the sink gained a part of the text only, from its front.
 pub record Unwritten (words : List (String Global)) (left left' held held' : Option (List ℕ)) : Type 0 where
   pub command : Command
   pub says : Says (texts words) command
-  pub verb : command.verb ≡ verb.Run
   pub input : List ℕ
   pub text : List ℕ
   pub read : IsReadWhole left left' input
-  pub run : IsRunOf input command.depth text
+  pub output : IsOutputOf command.verb command.depth input text
   pub part : AppendsPart held held' text
 
 -- Statuses 5 and 6: the command is not built and nothing was read; or what was read, the whole or one byte more than a
@@ -58,10 +51,10 @@ pub record Refused (words : List (String Global)) (left left' : Option (List ℕ
   pub within : IsWithinRanges command
   pub refused : IsRefused command left left' failure
 
--- the source tells its bytes, and they are a job that can be run
-abbrev pub HoldsJob : Option (List ℕ) → Type 0
-HoldsJob None = ⊥
-HoldsJob (Some bytes) = (grammar : Grammar) × (opening : Tree) × (changes : List Change) × IsBuilt bytes grammar opening changes
+-- the source tells its bytes, and they are a job for which the command has something to print
+abbrev pub HoldsJob : Command → Option (List ℕ) → Type 0
+HoldsJob command None = ⊥
+HoldsJob command (Some bytes) = IsBuiltFor command.verb bytes
 
 -- the fault is one of the input, and not of the words, of reading, of writing, or of memory
 abbrev pub is_refusal : Failure → Bool

@@ -1,8 +1,8 @@
 //! The program `lrc`: evaluates attribute grammars while trees are edited.
 #![tactic(auto)]
 
-mod check;
 mod job;
+mod order;
 mod run;
 #[cfg(test)]
 mod tests;

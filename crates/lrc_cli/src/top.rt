@@ -1,19 +1,19 @@
-ghost use Rattle.std.specs.Prelude.{◌≡◌, ℕ, List, ◌≢◌, ◌≤◌, ◌⊎◌, ◌↔◌, false, IsTrue, None, Ok, Err, IfOk, IfErr, OnOk};
+ghost use Rattle.std.specs.Prelude.{◌≡◌, ℕ, List, ◌≢◌, ◌≤◌, ◌⊎◌, false, IsTrue, MatchBool, None, Ok, Err, IfOk, IfErr, OnOk};
 ghost use Rattle.std.specs.Io.KnownBytes.{Keeps};
 ghost use Rattle.lrc_outside.specs.Count.{Rose};
 ghost use Rattle.lrc_words.specs.declared.command.Command.{Command};
-ghost use Rattle.lrc_words.specs.declared.command.Verb.TheVariants as v;
 ghost use Rattle.lrc_words.specs.CommandLine.{Says, IsWithinRanges, AreRefused, texts, verb_of};
 ghost use Rattle.lrc_lines.specs.Lines.{status_of, line_of, IsStatus};
 ghost use Rattle.lrc_lines.specs.Gains.{GainsLine};
 ghost use Rattle.lrc_lines.specs.declared.failure.Failure.{Failure};
 ghost use Rattle.lrc_lines.specs.declared.failure.Failure.TheVariants as f;
-ghost use Rattle.lrc_cli.specs.Headline.{IsRunOf};
-ghost use Rattle.lrc_cli.specs.Causes.{IsCause};
+ghost use Rattle.lrc_cli.specs.Headline.{IsOutputOf, IsRunOf};
+ghost use Rattle.lrc_cli.specs.Causes.{IsBuiltVerb, IsUnbuiltVerb, IsCause};
 ghost use Rattle.lrc_cli.specs.Status.{Done, Unwritten, Refused, HoldsJob, is_refusal};
 
-use crate::check::check;
+use crate::order::{partitions, sequences};
 use crate::run::{one_text, run_text};
+use lrc_base::{Bytes, List};
 use lrc_lines::{Failure, put_line};
 use lrc_outside::{Sink, Source, put_all, take_up_to};
 use lrc_reader::one_job;
@@ -44,11 +44,11 @@ fn command_of(alloc: Global, words: &[String]) -> Result<Command, Failure>
 
 /// Whether anything of a command is built.
 fn is_built(verb: Verb) -> bool
-    ensures { IsTrue result ↔ ((verb ≡ v.Run) ⊎ (verb ≡ v.Check)) }
+    ensures { MatchBool result (IsBuiltVerb verb) (IsUnbuiltVerb verb) }
 {
     match verb {
-        Verb::Run | Verb::Check => true,
-        Verb::Solo | Verb::Plan | Verb::Gen => false,
+        Verb::Run | Verb::Check | Verb::Plan => true,
+        Verb::Solo | Verb::Gen => false,
     }
 }
 
@@ -57,16 +57,16 @@ fn is_built(verb: Verb) -> bool
 /// # Errors
 ///
 /// The first fault of the job.
-fn output(alloc: Global, command: &Command, input: &[u8]) -> Result<Vec<u8>, Failure>
-    requires { (command.now.verb ≡ v.Run) ⊎ (command.now.verb ≡ v.Check) }
-    ensures verb { OnOk result (command.now.verb ≡ v.Run) }
-    ensures run { IfOk result (λ text. IsRunOf input.now command.now.depth text.items) }
+fn output(alloc: Global, command: &Command, input: &[u8]) -> Result<Bytes, Failure>
+    requires { IsBuiltVerb command.now.verb }
+    ensures output { IfOk result (IsOutputOf command.now.verb command.now.depth input.now) }
     ensures cause { IfErr result (IsCause command.now input.now) }
 {
     match command.verb {
-        Verb::Run => run_text(alloc, command, input),
-        Verb::Check => Err(check(alloc, command, input)),
-        Verb::Solo | Verb::Plan | Verb::Gen => unreachable!(),
+        Verb::Run => Ok(List::from_vec(run_text(alloc, command, input)?)),
+        Verb::Check => partitions(alloc, command, input),
+        Verb::Plan => sequences(alloc, command, input),
+        Verb::Solo | Verb::Gen => unreachable!(),
     }
 }
 
@@ -127,7 +127,7 @@ pub fn lrc<R: Threads + Sync, S: Source, O: Sink, E: Sink>(
     ensures part { result ≡ 4 → Unwritten words.now (S.left source.old) (S.left source.new) (O.held out.old) (O.held out.new) }
     ensures refused { (result ≡ 5) ⊎ (result ≡ 6) → (failure : Failure) × (result ≡ status_of failure) × Refused words.now (S.left source.old) (S.left source.new) failure × GainsLine (E.held err.old) (E.held err.new) (E.faults err.old) (E.faults err.new) (line_of failure) }
     ensures statuses { IsStatus result }
-    ensures complete { (command : Command) → Says (texts words.now) command → command.verb ≡ v.Run → ¬ Rose (S.faults source.old) (S.faults source.new) → ¬ Rose (O.faults out.old) (O.faults out.new) → HoldsJob (S.left source.old) → (result ≡ 0) ⊎ (result ≡ 7) }
+    ensures complete { (command : Command) → Says (texts words.now) command → ¬ Rose (S.faults source.old) (S.faults source.new) → ¬ Rose (O.faults out.old) (O.faults out.new) → HoldsJob command (S.left source.old) → (result ≡ 0) ⊎ (result ≡ 7) }
 
     // Nothing is written before all is computed, and of a fault only its line.
     ensures nothing_written { result ≢ 0 → result ≢ 4 → Keeps (O.held out.old) (O.held out.new) }

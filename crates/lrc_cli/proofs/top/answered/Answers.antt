@@ -1,7 +1,7 @@
 use Rattle.std.proofs.Common.{IsTrue, ℕ, List, subst}
 use Rattle.lrc_cli.specs.Causes.{IsCause}
 use Rattle.lrc_lines.specs.declared.failure.Failure.TheVariants as f
-use Rattle.lrc_cli.specs.Headline.{IsRunOf}
+use Rattle.lrc_cli.specs.Headline.{IsOutputOf}
 use Rattle.lrc_cli.specs.Status.{Refused, is_refusal}
 use Rattle.lrc_cli.proofs.TopLemmas.{not_read, done, unwritten, never_usage, never_write, refused_for, same_err, if_err}
 use Rattle.lrc_cli.proofs.top.answered.Goals as goal
@@ -26,12 +26,12 @@ returns-in_err-text-clause-refused g c =
 
 pub returns-in_err-put_all-clause-part : goal.returns-in_err-put_all-clause-part
 returns-in_err-put_all-clause-part g c = λ e.
-    unwritten c.args.words.now _ _ _ _ c.in_ok-command.command c.in_ok-input.input c.in_ok-text.text.items c.in_ok-command.ensures.says c.in_ok-text.ensures.verb c.in_ok-input.ensures.taken
-    (subst (λ (bytes : List ℕ). IsRunOf bytes c.in_ok-command.command.depth c.in_ok-text.text.items) c.as_slice.ensures c.in_ok-text.ensures.run)
-    (rw c.as_slice-2.ensures.value at c.in_err-put_all.ensures.part)
+    unwritten c.args.words.now _ _ _ _ c.in_ok-command.command c.in_ok-input.input c.in_ok-text.text c.in_ok-command.ensures.says c.in_ok-input.ensures.taken
+    (subst (λ (bytes : List ℕ). IsOutputOf c.in_ok-command.command.verb c.in_ok-command.command.depth bytes c.in_ok-text.text) c.as_slice.ensures c.in_ok-text.ensures.output)
+    (rw c.as_slice-2.ensures at c.in_err-put_all.ensures.part)
 
 pub returns-clause-done : goal.returns-clause-done
 returns-clause-done g c =
-    done c.args.words.now _ _ _ _ c.in_ok-command.command c.in_ok-input.input c.in_ok-text.text.items c.in_ok-command.ensures.says c.in_ok-text.ensures.verb c.in_ok-input.ensures.taken
-    (subst (λ (bytes : List ℕ). IsRunOf bytes c.in_ok-command.command.depth c.in_ok-text.text.items) c.as_slice.ensures c.in_ok-text.ensures.run)
-    (rw c.as_slice-2.ensures.value at c.in_ok-put_all.ensures.all)
+    done c.args.words.now _ _ _ _ c.in_ok-command.command c.in_ok-input.input c.in_ok-text.text c.in_ok-command.ensures.says c.in_ok-input.ensures.taken
+    (subst (λ (bytes : List ℕ). IsOutputOf c.in_ok-command.command.verb c.in_ok-command.command.depth bytes c.in_ok-text.text) c.as_slice.ensures c.in_ok-text.ensures.output)
+    (rw c.as_slice-2.ensures at c.in_ok-put_all.ensures.all)

@@ -24,9 +24,9 @@ pub returns-in-Err-clause-part : goal.returns-in-Err-clause-part
 returns-in-Err-clause-part g c = λ e. c.in-Err.ensures.part (ap Err (is_write c.in-Err.failure (sym c.status.ensures ∙ e)))
 
 pub returns-in-Err-clause-complete : goal.returns-in-Err-clause-complete
-returns-in-Err-clause-complete g c = λ command says run source out job.
+returns-in-Err-clause-complete g c = λ command says source out job.
     subst (λ (n : ℕ). (n ≡ 0) ⊎ (n ≡ 7)) (sym c.status.ensures) (done_or_memory c.in-Err.failure
     (λ e. not_usage _ command says (c.in-Err.ensures.usage (ap Err e)))
     (λ e. source (c.in-Err.ensures.read_fault (ap Err e)))
     (λ e. out (c.in-Err.ensures.write_fault (ap Err e)))
-    (λ r. not_refused c.one_job.ensures c.args.words.now command _ _ c.in-Err.failure says run job r (c.in-Err.ensures.refused r)))
+    (λ r. not_refused c.one_job.ensures c.args.words.now command _ _ c.in-Err.failure says job r (c.in-Err.ensures.refused r)))

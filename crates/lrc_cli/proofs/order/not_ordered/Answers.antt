@@ -2,7 +2,7 @@ use Rattle.std.proofs.Common.{Bool, subst, sym}
 use Rattle.lrc_grammar.specs.Grammar.{grammar_of}
 use Rattle.lrc_cli.specs.Causes.{IsCycleAt, has_cycle, has_no_memory}
 use Rattle.lrc_cli.proofs.PlacedLemmas.{placed}
-use Rattle.lrc_cli.proofs.check.not_ordered.Goals as goal
+use Rattle.lrc_cli.proofs.order.not_ordered.Goals as goal
 
 pub cycle_at-requires : goal.cycle_at-requires
 cycle_at-requires c = placed (grammar_of c.args.grammar.now) c.args.grammar.now.ok c.args.is_extended c.args.production c.args.occurrence c.requires

@@ -2,15 +2,16 @@ ghost use Rattle.std.specs.Prelude.{◌≡◌, ◌<◌, [], true, false, length,
 ghost use Rattle.lrc_meaning.specs.Grammar.{Grammar};
 ghost use Rattle.lrc_grammar.specs.Grammar.{grammar_of};
 ghost use Rattle.lrc_ordered.specs.Faults.{IsOrderFault};
-ghost use Rattle.lrc_words.specs.declared.command.Verb.TheVariants as v;
-ghost use Rattle.lrc_cli.specs.Causes.{IsPlaced, IsNamed, IsCycleAt, IsUnordered, IsCause};
+ghost use Rattle.lrc_cli.specs.Causes.{IsPlaced, IsNamed, IsCycleAt, IsUnordered, TellsOrder, IsCause};
+ghost use Rattle.lrc_cli.specs.Headline.{HasPartitions, IsPartsOf, IsPlanOf};
 
 use crate::job::accepted_job;
-use lrc_base::Memory;
+use lrc_base::{Bytes, Memory};
 use lrc_grammar::Grammar;
 use lrc_lines::{Cycle, Failure};
 use lrc_naming::called_occurrences;
 use lrc_ordered::{OrderFault, ordered};
+use lrc_plan::{Plan, parts_text, plan, plan_text};
 use lrc_words::Command;
 use std::alloc::Global;
 
@@ -79,18 +80,50 @@ fn failure_of(alloc: Global, grammar: &Grammar, fault: OrderFault) -> Failure
     }
 }
 
-/// Why `check` prints nothing for a job: its first fault, else that its grammar is not ordered, else
-/// that partitions are not printed yet.
-pub fn check(alloc: Global, command: &Command, bytes: &[u8]) -> Failure
-    requires { command.now.verb ≡ v.Check }
-    ensures { IsCause command.now bytes.now result }
+/// The plan of the grammar of the job that the bytes denote.
+///
+/// # Errors
+///
+/// The first fault of the job, else that its grammar is not ordered, and want of memory.
+fn planned(alloc: Global, command: &Command, bytes: &[u8]) -> Result<Plan, Failure>
+    requires { TellsOrder command.now }
+    ensures plan { IfOk result (λ plan. HasPartitions bytes.now (grammar_of plan.grammar) plan.parts) }
+    ensures cause { IfErr result (IsCause command.now bytes.now) }
 {
-    let accepted = match accepted_job(alloc, bytes) {
-        Ok(accepted) => accepted,
-        Err(failure) => return failure,
-    };
+    let accepted = accepted_job(alloc, bytes)?;
+    let grammar = accepted.grammar.copy(alloc)?;
     match ordered(alloc, &accepted.grammar) {
-        Ok(_) => Failure::NotBuilt,
-        Err(fault) => failure_of(alloc, &accepted.grammar, fault),
+        Ok(parts) => Ok(plan(alloc, grammar, parts)?),
+        Err(fault) => Err(failure_of(alloc, &accepted.grammar, fault)),
     }
+}
+
+/// The text of the partitions of a job's grammar.
+///
+/// # Errors
+///
+/// As [`planned`].
+pub fn partitions(alloc: Global, command: &Command, bytes: &[u8]) -> Result<Bytes, Failure>
+    requires { TellsOrder command.now }
+    ensures text { IfOk result (IsPartsOf bytes.now) }
+    ensures cause { IfErr result (IsCause command.now bytes.now) }
+{
+    let plan = planned(alloc, command, bytes)?;
+    Ok(parts_text(alloc, &plan)?)
+}
+
+/// The text of the partitions of a job's grammar, and then of its visit sequences and bindings.
+///
+/// # Errors
+///
+/// As [`planned`].
+pub fn sequences(alloc: Global, command: &Command, bytes: &[u8]) -> Result<Bytes, Failure>
+    requires { TellsOrder command.now }
+    ensures text { IfOk result (IsPlanOf bytes.now) }
+    ensures cause { IfErr result (IsCause command.now bytes.now) }
+{
+    let plan = planned(alloc, command, bytes)?;
+    let mut text = parts_text(alloc, &plan)?;
+    text.append(plan_text(alloc, &plan)?)?;
+    Ok(text)
 }

@@ -1,0 +1,13 @@
+use Rattle.lrc_lines.specs.declared.failure.Failure.TheVariants as f
+use Rattle.lrc_cli.specs.Causes.{IsCause, no_memory}
+use Rattle.lrc_cli.proofs.TopLemmas.{if_err}
+use Rattle.lrc_cli.proofs.order.sequences.Goals as goal
+
+pub returns-in_err-text-clause-cause : goal.returns-in_err-text-clause-cause
+returns-in_err-text-clause-cause c = if_err c.from_residual-in_err-text.result (IsCause c.args.command.now c.args.bytes.now) f.Memory c.from_residual-in_err-text.ensures.1 no_memory
+
+pub returns-in_err-plan_text-clause-cause : goal.returns-in_err-plan_text-clause-cause
+returns-in_err-plan_text-clause-cause c = if_err c.from_residual-in_err-plan_text.result (IsCause c.args.command.now c.args.bytes.now) f.Memory c.from_residual-in_err-plan_text.ensures.1 no_memory
+
+pub returns-in_err-append-clause-cause : goal.returns-in_err-append-clause-cause
+returns-in_err-append-clause-cause c = if_err c.from_residual-in_err-append.result (IsCause c.args.command.now c.args.bytes.now) f.Memory c.from_residual-in_err-append.ensures.1 no_memory
