@@ -8,30 +8,11 @@ is evaluated from scratch, so this is the figure that an incremental evaluator h
 and is no test.
 """
 import os
-import subprocess
 import sys
-import tempfile
 
-from read import GRAMMAR, balanced
+from read import GRAMMAR, balanced, seconds
 
 EDITS = {10: 800, 14: 100}
-
-
-def processor_seconds(program, text, times):
-    """The least processor time of some runs, and what they print."""
-    best = None
-    for _ in range(times):
-        with tempfile.TemporaryFile() as job, tempfile.TemporaryFile() as out:
-            job.write(text.encode())
-            job.seek(0)
-            child = subprocess.Popen([program, "run"], stdin=job, stdout=out)
-            _, status, used = os.wait4(child.pid, 0)
-            assert status == 0, status
-            out.seek(0)
-            printed = out.read().decode()
-        spent = used.ru_utime + used.ru_stime
-        best = spent if best is None else min(best, spent)
-    return best, printed
 
 
 def path(leaf, power):
@@ -59,10 +40,10 @@ def main():
     micros = {}
     for power in (10, 14):
         opening = GRAMMAR % balanced(2 ** power)
-        without, _ = processor_seconds(program, opening, 5)
+        without, _ = seconds(program, opening.encode(), 5)
         text, sums = puts(power)
-        spent, out = processor_seconds(program, opening.replace("{ }\n", "{ %s }\n" % text), 5)
-        lines = out.splitlines()
+        spent, out = seconds(program, opening.replace("{ }\n", "{ %s }\n" % text).encode(), 5)
+        lines = out.decode().splitlines()
         assert lines[2:-1] == ["%d val=%d" % (n + 1, value) for n, value in enumerate(sums)], lines[:5]
         micros[power] = (spent - without) * 1e6 / EDITS[power]
         print("2^%d leaves: %.1f microseconds an edit" % (power, micros[power]))

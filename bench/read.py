@@ -3,7 +3,7 @@
 
     bench/read.py [PROGRAM]
 
-Prints microseconds a node of both, their ratio, and the peak memory of the larger, and then the
+Prints microseconds of processor time a node of both, their ratio, and the peak memory of the larger, and then the
 figures of notation.py. It measures and is no test. A node is a production's: a sum of n leaves has
 2n - 1.
 """
@@ -11,7 +11,7 @@ import os
 import resource
 import subprocess
 import sys
-import time
+import tempfile
 
 import notation
 
@@ -32,13 +32,20 @@ def balanced(leaves):
 
 
 def seconds(program, text, times):
+    """The least processor time of some runs in seconds, and what they print."""
     best = None
     for _ in range(times):
-        start = time.perf_counter()
-        done = subprocess.run([program, "run"], input=text, stdout=subprocess.PIPE, check=True)
-        spent = time.perf_counter() - start
+        with tempfile.TemporaryFile() as job, tempfile.TemporaryFile() as out:
+            job.write(text)
+            job.seek(0)
+            child = subprocess.Popen([program, "run"], stdin=job, stdout=out)
+            _, status, used = os.wait4(child.pid, 0)
+            assert status == 0, status
+            out.seek(0)
+            printed = out.read()
+        spent = used.ru_utime + used.ru_stime
         best = spent if best is None else min(best, spent)
-    return best, done.stdout
+    return best, printed
 
 
 def main():
@@ -53,7 +60,7 @@ def main():
         value = sum(i % 100 for i in range(leaves))
         assert out == b"session 1\n0 val=%d\nfinal 1 1\n" % value, out
         micros[power] = (spent - start) * 1e6 / (2 * leaves - 1)
-        print("2^%d leaves, %d bytes: %.3f microseconds a node" % (power, len(text), micros[power]))
+        print("2^%d leaves, %d bytes: %.3f microseconds of processor time a node" % (power, len(text), micros[power]))
     print("ratio %.2f" % (micros[18] / micros[12]))
     peak = resource.getrusage(resource.RUSAGE_CHILDREN).ru_maxrss
     print("peak memory %.0f MiB" % (peak / 1024))
