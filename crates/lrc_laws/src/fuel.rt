@@ -1,0 +1,8 @@
+ghost use Rattle.lrc_laws.specs.Laws.{MoreFuelGivesTheSame, LessFuelGivesNone};
+
+/// The height in the result of a visit is the least fuel at which the visit has a result; more fuel
+/// changes nothing.
+pub fn height_is_least_fuel()
+    ensures more { MoreFuelGivesTheSame }
+    ensures less { LessFuelGivesNone }
+{}

@@ -1,0 +1,7 @@
+//! Laws of attribute grammars over their definitions alone: no tables, handles or memo. Each function
+//! does nothing, and carries a law as its contract.
+#![tactic(auto)]
+
+mod fuel;
+
+pub use fuel::height_is_least_fuel;
