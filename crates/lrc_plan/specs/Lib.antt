@@ -1,2 +1,3 @@
 pub mod ItemSets
 pub mod Waiting
+pub mod Running
