@@ -1,1 +1,4 @@
+pub mod ListLemmas
 pub mod FuelLemmas
+pub mod HeldLemmas
+pub mod ReadLemmas
