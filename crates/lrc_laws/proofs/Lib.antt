@@ -2,3 +2,4 @@ pub mod ListLemmas
 pub mod FuelLemmas
 pub mod HeldLemmas
 pub mod ReadLemmas
+pub mod NodeLemmas

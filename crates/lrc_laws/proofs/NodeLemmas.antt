@@ -1,0 +1,153 @@
+-- What a node shows to the node above it, and that a node on which all is made serves each of its visits.
+use Rattle.std.proofs.Common.{◌≡◌, ℕ, zero, suc, ◌+◌, ◌-◌, ◌<◌, ◌≤◌, Bool, true, false, IsTrue, cond, List, [], ◌∷◌, ◌++◌, map, length, Contains, All, Option, Some, None, ◌⊎◌, inl, inr, slice_get, refl, sym, ap, ◌∙◌, subst, arith}
+use Rattle.std.specs.Prelude.{flat_map}
+use Rattle.std.specs.Option.{option_map, option_and_then}
+use Rattle.std.specs.List.{range_with_len}
+use Rattle.std.proofs.lemmas.List.{map-append}
+use Rattle.std.proofs.lemmas.List.Elements.{All-contains, Contains-append_left, Contains-append_right}
+use Rattle.lrc_base.specs.declared.grammar.Production.{Production}
+use Rattle.lrc_meaning.specs.Tree.{Tree, Trees, node}
+use Rattle.lrc_meaning.specs.Grammar.{Grammar}
+use Rattle.lrc_order.specs.declared.Place.{Place}
+use Rattle.lrc_order.specs.declared.Partition.{Partition}
+use Rattle.lrc_sequence.specs.declared.Action.{Action}
+use Rattle.lrc_sequence.specs.declared.Bound.{Bound}
+use Rattle.lrc_sequence.specs.declared.Bound.TheVariants as b
+use Rattle.lrc_sequence.specs.Items.{visits_of, values_of_visit, attrs_of_visit, symbol_at, makes}
+use Rattle.lrc_sequence.specs.Sequences.{segment}
+use Rattle.lrc_sequence.specs.Bindings.{binding as items_between}
+use Rattle.lrc_sequence.specs.Sound.{handed_in, handed_out, IsDone, IsSound}
+use Rattle.lrc_visit_meaning.specs.Values.{Datum, value, binding, Data, no_data, data_then, data_row, data_list, value_in, binding_in, Call, Result}
+use Rattle.lrc_visit_meaning.specs.Visits.{Held, nothing_held, holding, Given, Walked, walk, are_of_kinds, values_at, held_at_start, result_of, step, visit_of_node, one_visit}
+use Rattle.lrc_laws.proofs.ListLemmas.{member_map, member_flat, map_map, map_agree, map_flat, flat_of_map, flat_agree}
+use Rattle.lrc_laws.proofs.HeldLemmas.{Agree, agree_part, holding_agrees, IsMade, AreMade, walk_follows}
+use Rattle.lrc_laws.proofs.ReadLemmas.{step_reads}
+
+-- What a node shows: the values of its attributes, by number, and its bindings from visit to visit.
+pub record Face : Type 0 where
+  pub attr : ℕ → Tree
+  pub bound : ℕ → ℕ → Data
+
+-- each value item holds a value, and each other one a binding
+pub record IsProper (m : Held) : Type 0 where
+  pub values : (o : ℕ) → m (b.Value o) ≡ value (value_in (m (b.Value o)))
+  pub bindings : (s i j : ℕ) → m (b.Kid s i j) ≡ binding (binding_in (m (b.Kid s i j)))
+
+pub list_of_row : (ds : List Datum) → data_list (data_row ds) ≡ ds
+list_of_row [] = refl
+list_of_row (d ∷ ds) = ap (λ xs. d ∷ xs) (list_of_row ds)
+
+module _ (g : Grammar) (parts : List Partition) where
+  -- visit v of a tree of sort s, as the node above it makes it
+  abbrev pub asked : Face → ℕ → Tree → ℕ → Call
+  asked f s t v = record {
+    tree = t;
+    visit = v;
+    inherited = map f.attr (attrs_of_visit g.sorts parts true s v);
+    bindings = map (λ u. f.bound u v) (range_with_len 1 (v - 1));
+  }
+
+  -- and what it answers
+  pub record Answers (f : Face) (s v : ℕ) (r : Result) : Type 0 where
+    pub synthesised : r.synthesised ≡ map f.attr (attrs_of_visit g.sorts parts false s v)
+    pub bindings : r.bindings ≡ map (λ w. f.bound v w) (range_with_len (v + 1) (visits_of parts s - v))
+
+  -- one visit gives what the face shows
+  pub record ServesOne (visit : Call → Option Result) (f : Face) (s : ℕ) (t : Tree) (v : ℕ) : Type 0 where
+    pub result : Result
+    pub is_result : visit (asked f s t v) ≡ Some result
+    pub answers : Answers f s v result
+
+  -- each visit does
+  abbrev pub Serves : (Call → Option Result) → Face → ℕ → Tree → Type 0
+  Serves visit f s t = (v : ℕ) → 1 ≤ v → v ≤ visits_of parts s → ServesOne visit f s t v
+
+  -- what a node shows to the one above it, and what it sees of a symbol
+  abbrev pub own_face : Production → Held → Face
+  own_face p m = record {
+    attr = λ x. value_in (m (b.Value (0 + x)));
+    bound = λ u w. data_row (map m (items_between g.sorts parts p u w));
+  }
+
+  abbrev pub symbol_face : Production → Held → ℕ → Face
+  symbol_face p m s = record {
+    attr = λ x. value_in (m (b.Value ((symbol_at g.sorts p s).start + x)));
+    bound = λ u w. binding_in (m (b.Kid s u w));
+  }
+
+  -- each action of the plan is made on m
+  abbrev pub AllMade : (Call → Option Result) → Production → Trees → Held → Type 0
+  AllMade visit p kids m = (x : Action) → IsDone g.sorts parts p x → IsMade g.sorts parts p (step g parts visit p kids) m x
+
+  module _ (visit : Call → Option Result) (p : Production) (kids : Trees) (m : Held) (proper : IsProper m) where
+    -- the values of some attributes of a place
+    pub values_held : (start : ℕ) (xs : List ℕ) → map value (map (λ x. value_in (m (b.Value (start + x)))) xs) ≡ map m (map (λ x. b.Value (start + x)) xs)
+    values_held start xs =
+        map_map value (λ x. value_in (m (b.Value (start + x)))) xs
+        ∙ map_agree (λ x. value (value_in (m (b.Value (start + x))))) (λ x. m (b.Value (start + x))) xs (λ x c. sym (proper.values (start + x)))
+        ∙ sym (map_map m (λ x. b.Value (start + x)) xs)
+
+    bindings_held : (v : ℕ) (us : List ℕ)
+        → flat_map data_list (map (λ u. data_row (map m (items_between g.sorts parts p u v))) us) ≡ map m (flat_map (λ u. items_between g.sorts parts p u v) us)
+    bindings_held v us =
+        flat_of_map data_list (λ u. data_row (map m (items_between g.sorts parts p u v))) us
+        ∙ flat_agree (λ u. data_list (data_row (map m (items_between g.sorts parts p u v)))) (λ u. map m (items_between g.sorts parts p u v)) us
+        (λ u c. list_of_row (map m (items_between g.sorts parts p u v)))
+        ∙ sym (map_flat m (λ u. items_between g.sorts parts p u v) us)
+
+    module _ (n v : ℕ) where
+      abbrev call : Call
+      call = asked (own_face p m) p.left (node n kids) v
+
+      -- at the start the call's items hold what they hold on m
+      given_held : map value call.inherited ++ flat_map data_list call.bindings ≡ map m (handed_in g.sorts parts p v)
+      given_held =
+          ap (λ ds. ds ++ flat_map data_list call.bindings) (values_held 0 (attrs_of_visit g.sorts parts true p.left v))
+          ∙ ap (λ ds. map m (values_of_visit g.sorts parts true p.left 0 v) ++ ds) (bindings_held v (range_with_len 1 (v - 1)))
+          ∙ sym (map-append m (values_of_visit g.sorts parts true p.left 0 v) (flat_map (λ u. items_between g.sorts parts p u v) (range_with_len 1 (v - 1))))
+
+      start_agrees : Agree (handed_in g.sorts parts p v) (held_at_start g parts p call) m
+      start_agrees x c =
+          subst (λ ds. holding (handed_in g.sorts parts p v) ds nothing_held x ≡ m x) (sym given_held)
+          (holding_agrees (handed_in g.sorts parts p v) nothing_held m x (inr c))
+
+      -- at the end what is answered is what m shows
+      end_answers : (w : Walked) → Agree (handed_out g.sorts parts p v) w.held m → Answers (own_face p m) p.left v (result_of g parts p v w)
+      end_answers w agrees = record {
+        synthesised =
+            map_map (λ x. value_in (w.held x)) (λ x. b.Value (0 + x)) (attrs_of_visit g.sorts parts false p.left v)
+            ∙ map_agree (λ x. value_in (w.held (b.Value (0 + x)))) (λ x. value_in (m (b.Value (0 + x)))) (attrs_of_visit g.sorts parts false p.left v)
+            (λ x c.
+            ap value_in
+            (agrees (b.Value (0 + x))
+            (Contains-append_left (values_of_visit g.sorts parts false p.left 0 v) (flat_map (items_between g.sorts parts p v) (range_with_len (v + 1) (visits_of parts p.left - v))) (b.Value (0 + x))
+            (member_map (λ x. b.Value (0 + x)) (attrs_of_visit g.sorts parts false p.left v) x c))));
+        bindings =
+            map_agree (λ u. data_row (map w.held (items_between g.sorts parts p v u))) (λ u. data_row (map m (items_between g.sorts parts p v u))) (range_with_len (v + 1) (visits_of parts p.left - v))
+            (λ u c.
+            ap data_row
+            (map_agree w.held m (items_between g.sorts parts p v u)
+            (λ x d.
+            agrees x
+            (Contains-append_right (values_of_visit g.sorts parts false p.left 0 v) (flat_map (items_between g.sorts parts p v) (range_with_len (v + 1) (visits_of parts p.left - v))) x
+            (member_flat (items_between g.sorts parts p v) (range_with_len (v + 1) (visits_of parts p.left - v)) u x c d)))));
+      }
+
+    -- A node on which all is made serves each of its visits.
+    pub node_serves : (n : ℕ) → slice_get g.prods n ≡ Some p → IsSound g.sorts parts p → IsTrue (are_of_kinds g.prods kids p.kids) → AllMade visit p kids m
+        → Serves (one_visit g parts visit) (own_face p m) p.left (node n kids)
+    node_serves n there sound kinds made v first last =
+        let c = asked (own_face p m) p.left (node n kids) v in
+        let start : Walked = record { height = 0; held = held_at_start g parts p c } in
+        let seg = segment g.sorts parts p v in
+        let walks = walk_follows g.sorts parts p (step g parts visit p kids) (step_reads g parts visit p kids) seg start (handed_in g.sorts parts p v) m
+        (start_agrees n v) (sound.ready v first last) (λ x d. made x (v, first, last, d)) in
+        record {
+          result = result_of g parts p v walks.walked;
+          is_result =
+              ap (option_and_then (λ q. visit_of_node g parts visit q kids c)) there
+              ∙ ap (λ k. cond k (option_map (result_of g parts p v) (walk (makes g.sorts parts p) (step g parts visit p kids) seg start)) None) kinds
+              ∙ ap (option_map (result_of g parts p v)) walks.is_walked;
+          answers = end_answers n v walks.walked
+              (agree_part (handed_out g.sorts parts p v) (handed_in g.sorts parts p v ++ flat_map (makes g.sorts parts p) seg) walks.walked.held m (sound.gives v first last) walks.agrees);
+        }
