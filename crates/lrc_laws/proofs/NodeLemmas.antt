@@ -1,25 +1,27 @@
 -- What a node shows to the node above it, and that a node on which all is made serves each of its visits.
-use Rattle.std.proofs.Common.{◌≡◌, ℕ, zero, suc, ◌+◌, ◌-◌, ◌<◌, ◌≤◌, Bool, true, false, IsTrue, cond, List, [], ◌∷◌, ◌++◌, map, length, Contains, All, Option, Some, None, ◌⊎◌, inl, inr, slice_get, refl, sym, ap, ◌∙◌, subst, arith}
+use Rattle.std.proofs.Common.{◌≡◌, ℕ, zero, suc, ◌+◌, ◌-◌, ◌<◌, ◌≤◌, Bool, true, false, IsTrue, ◌==◌, ◌&&◌, cond, List, [], ◌∷◌, ◌++◌, map, length, Contains, All, Option, Some, None, ◌⊎◌, inl, inr, slice_get, refl, sym, ap, ◌∙◌, subst, arith}
 use Rattle.std.specs.Prelude.{flat_map}
 use Rattle.std.specs.Option.{option_map, option_and_then}
 use Rattle.std.specs.List.{range_with_len}
 use Rattle.std.proofs.lemmas.List.{map-append}
 use Rattle.std.proofs.lemmas.List.Elements.{All-contains, Contains-append_left, Contains-append_right}
+use Rattle.lrc_base.specs.declared.grammar.Kind.TheVariants as k
 use Rattle.lrc_base.specs.declared.grammar.Production.{Production}
 use Rattle.lrc_meaning.specs.Tree.{Tree, Trees, node}
-use Rattle.lrc_meaning.specs.Grammar.{Grammar}
+use Rattle.lrc_meaning.specs.Grammar.{Grammar, attrs_of_sort}
 use Rattle.lrc_order.specs.declared.Place.{Place}
 use Rattle.lrc_order.specs.declared.Partition.{Partition}
 use Rattle.lrc_sequence.specs.declared.Action.{Action}
+use Rattle.lrc_sequence.specs.declared.Action.TheVariants as a
 use Rattle.lrc_sequence.specs.declared.Bound.{Bound}
 use Rattle.lrc_sequence.specs.declared.Bound.TheVariants as b
-use Rattle.lrc_sequence.specs.Items.{visits_of, values_of_visit, attrs_of_visit, symbol_at, makes}
+use Rattle.lrc_sequence.specs.Items.{visits_of, visit_of, is_of, values_of_visit, attrs_of_visit, symbol_at, makes}
 use Rattle.lrc_sequence.specs.Sequences.{segment}
 use Rattle.lrc_sequence.specs.Bindings.{binding as items_between}
 use Rattle.lrc_sequence.specs.Sound.{handed_in, handed_out, IsDone, IsSound}
 use Rattle.lrc_visit_meaning.specs.Values.{Datum, value, binding, Data, no_data, data_then, data_row, data_list, value_in, binding_in, Call, Result}
-use Rattle.lrc_visit_meaning.specs.Visits.{Held, nothing_held, holding, Given, Walked, walk, are_of_kinds, values_at, held_at_start, result_of, step, visit_of_node, one_visit}
-use Rattle.lrc_laws.proofs.ListLemmas.{member_map, member_flat, map_map, map_agree, map_flat, flat_of_map, flat_agree}
+use Rattle.lrc_visit_meaning.specs.Visits.{Held, nothing_held, holding, Given, Walked, walk, are_of_kinds, values_at, is_of_kind, tree_at, call_of, given_by, held_at_start, result_of, step, visit_of_node, one_visit}
+use Rattle.lrc_laws.proofs.ListLemmas.{member_map, member_flat, member_of_filter, member_of_range, map_map, map_agree, map_flat, flat_of_map, flat_agree}
 use Rattle.lrc_laws.proofs.HeldLemmas.{Agree, agree_part, holding_agrees, IsMade, AreMade, walk_follows}
 use Rattle.lrc_laws.proofs.ReadLemmas.{step_reads}
 
@@ -151,3 +153,72 @@ module _ (g : Grammar) (parts : List Partition) where
           answers = end_answers n v walks.walked
               (agree_part (handed_out g.sorts parts p v) (handed_in g.sorts parts p v ++ flat_map (makes g.sorts parts p) seg) walks.walked.held m (sound.gives v first last) walks.agrees);
         }
+
+-- the same attributes of a sort, and the same bindings
+pub record AreAlike (n : ℕ) (e f : Face) : Type 0 where
+  pub attr : (x : ℕ) → x < n → e.attr x ≡ f.attr x
+  pub bound : (u w : ℕ) → e.bound u w ≡ f.bound u w
+
+module _ (g : Grammar) (parts : List Partition) (s : ℕ) where
+  -- the attributes of a visit are those of the sort
+  pub within_sort : (inherited : Bool) (v x : ℕ) → Contains (attrs_of_visit g.sorts parts inherited s v) x → x < length (attrs_of_sort g.sorts s)
+  within_sort inherited v x c =
+      let there = member_of_filter (λ y. is_of (attrs_of_sort g.sorts s) inherited y && (visit_of parts s y == v)) (range_with_len 0 (length (attrs_of_sort g.sorts s))) x c in
+      let within = (member_of_range 0 (length (attrs_of_sort g.sorts s)) x there.0).1 in
+      omega (arith, within)
+
+  module _ (e f : Face) (alike : AreAlike (length (attrs_of_sort g.sorts s)) e f) where
+    same_attrs : (inherited : Bool) (v : ℕ) → map e.attr (attrs_of_visit g.sorts parts inherited s v) ≡ map f.attr (attrs_of_visit g.sorts parts inherited s v)
+    same_attrs inherited v =
+        map_agree e.attr f.attr (attrs_of_visit g.sorts parts inherited s v) (λ x c. alike.attr x (within_sort inherited v x c))
+
+    same_asked : (t : Tree) (v : ℕ) → asked g parts e s t v ≡ asked g parts f s t v
+    same_asked t v =
+        ap (λ vs. record { tree = t; visit = v; inherited = vs; bindings = map (λ u. e.bound u v) (range_with_len 1 (v - 1)) }) (same_attrs true v)
+        ∙ ap (λ bs. record { tree = t; visit = v; inherited = map f.attr (attrs_of_visit g.sorts parts true s v); bindings = bs })
+        (map_agree (λ u. e.bound u v) (λ u. f.bound u v) (range_with_len 1 (v - 1)) (λ u c. alike.bound u v))
+
+    pub serves_alike : (visit : Call → Option Result) (t : Tree) → Serves g parts visit e s t → Serves g parts visit f s t
+    serves_alike visit t serves v first last =
+        let one = serves v first last in
+        record {
+          result = one.result;
+          is_result = ap visit (sym (same_asked t v)) ∙ one.is_result;
+          answers = record {
+            synthesised = one.answers.synthesised ∙ same_attrs false v;
+            bindings = one.answers.bindings
+                ∙ map_agree (λ w. e.bound v w) (λ w. f.bound v w) (range_with_len (v + 1) (visits_of parts s - v)) (λ w c. alike.bound v w);
+          };
+        }
+
+module _ (g : Grammar) (parts : List Partition) (visit : Call → Option Result) (p : Production) (kids : Trees) (m : Held) (s v : ℕ) where
+  abbrev place : Place
+  place = symbol_at g.sorts p s
+
+  -- the call of a symbol's visit is what its face asks
+  pub call_asks : call_of g parts p kids m s v ≡ asked g parts (symbol_face g parts p m s) place.sort (tree_at g p kids m s) v
+  call_asks =
+      ap (λ vs. record { tree = tree_at g p kids m s; visit = v; inherited = vs; bindings = map (λ u. binding_in (m (b.Kid s u v))) (range_with_len 1 (v - 1)) })
+      (map_map (λ x. value_in (m x)) (λ x. b.Value (place.start + x)) (attrs_of_visit g.sorts parts true place.sort v))
+
+  module _ (proper : IsProper m) where
+    -- what a symbol's visit makes is there where its tree serves it
+    pub visit_made : IsTrue (is_of_kind g.prods (tree_at g p kids m s) (k.Sort place.sort))
+        → ServesOne g parts visit (symbol_face g parts p m s) place.sort (tree_at g p kids m s) v → IsMade g.sorts parts p (step g parts visit p kids) m (a.Visit s v)
+    visit_made kind one = record {
+      given = given_by one.result;
+      is_given =
+          ap (λ c. cond c (option_map given_by (visit (call_of g parts p kids m s v))) None) kind
+          ∙ ap (λ c. option_map given_by (visit c)) call_asks
+          ∙ ap (option_map given_by) one.is_result;
+      made =
+          ap (λ vs. map value vs ++ map binding one.result.bindings) one.answers.synthesised
+          ∙ ap (λ bs. map value (map (symbol_face g parts p m s).attr (attrs_of_visit g.sorts parts false place.sort v)) ++ map binding bs) one.answers.bindings
+          ∙ ap (λ ds. ds ++ map binding (map (λ w. binding_in (m (b.Kid s v w))) (range_with_len (v + 1) (visits_of parts place.sort - v))))
+          (values_held g parts visit p kids m proper place.start (attrs_of_visit g.sorts parts false place.sort v))
+          ∙ ap (λ ds. map m (values_of_visit g.sorts parts false place.sort place.start v) ++ ds)
+          (map_map binding (λ w. binding_in (m (b.Kid s v w))) (range_with_len (v + 1) (visits_of parts place.sort - v))
+          ∙ map_agree (λ w. binding (binding_in (m (b.Kid s v w)))) (λ w. m (b.Kid s v w)) (range_with_len (v + 1) (visits_of parts place.sort - v)) (λ w c. sym (proper.bindings s v w))
+          ∙ sym (map_map m (λ w. b.Kid s v w) (range_with_len (v + 1) (visits_of parts place.sort - v))))
+          ∙ sym (map-append m (values_of_visit g.sorts parts false place.sort place.start v) (map (λ w. b.Kid s v w) (range_with_len (v + 1) (visits_of parts place.sort - v))));
+    }

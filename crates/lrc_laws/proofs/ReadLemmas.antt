@@ -27,7 +27,7 @@ use Rattle.lrc_visit_meaning.specs.Visits.{Held, Given, values_in, leaf_in, eval
 use Rattle.lrc_laws.proofs.ListLemmas.{member_first, member_later, member_map, member_flat, member_filter, member_slice, map_agree}
 use Rattle.lrc_laws.proofs.HeldLemmas.{Agree, agree_left, agree_right, ReadsNeeds}
 
-module _ (vs ws : List Tree) (leaves : ℕ → Option Tree) where
+module _ (vs ws : List Tree) (leaves others : ℕ → Option Tree) (same_leaves : (i : ℕ) → leaves i ≡ others i) where
   abbrev Same : List ℕ → Type 0
   Same is = (i : ℕ) → Contains is i → slice_get vs i ≡ slice_get ws i
 
@@ -39,25 +39,25 @@ module _ (vs ws : List Tree) (leaves : ℕ → Option Tree) where
 
   mutual
     -- an expression has the same value where what it reads is the same
-    pub value_same : (e : Expression) → Same (reads e) → value_of vs leaves e ≡ value_of ws leaves e
+    pub value_same : (e : Expression) → Same (reads e) → value_of vs leaves e ≡ value_of ws others e
     value_same (literal t) h = refl
     value_same (occurrence i) h = h i (member_first i [])
-    value_same (leaf i) h = refl
+    value_same (leaf i) h = same_leaves i
     value_same (binary op x y) h =
         ap (λ o. option_and_then (λ u. option_and_then (operated op u) (value_of vs leaves y)) o) (value_same x (left (reads x) (reads y) h))
-        ∙ ap (λ o. option_and_then (λ u. option_and_then (operated op u) o) (value_of ws leaves x)) (value_same y (right (reads x) (reads y) h))
+        ∙ ap (λ o. option_and_then (λ u. option_and_then (operated op u) o) (value_of ws others x)) (value_same y (right (reads x) (reads y) h))
     value_same (choice c x y) h =
         let branches = right (reads c) (reads x ++ reads y) h in
         ap (λ o. option_and_then (λ u. option_and_then (λ t. chosen t (value_of vs leaves x) (value_of vs leaves y)) (bool_in u)) o) (value_same c (left (reads c) (reads x ++ reads y) h))
-        ∙ ap (λ o. option_and_then (λ u. option_and_then (λ t. chosen t o (value_of vs leaves y)) (bool_in u)) (value_of ws leaves c)) (value_same x (left (reads x) (reads y) branches))
-        ∙ ap (λ o. option_and_then (λ u. option_and_then (λ t. chosen t (value_of ws leaves x) o) (bool_in u)) (value_of ws leaves c)) (value_same y (right (reads x) (reads y) branches))
+        ∙ ap (λ o. option_and_then (λ u. option_and_then (λ t. chosen t o (value_of vs leaves y)) (bool_in u)) (value_of ws others c)) (value_same x (left (reads x) (reads y) branches))
+        ∙ ap (λ o. option_and_then (λ u. option_and_then (λ t. chosen t (value_of ws others x) o) (bool_in u)) (value_of ws others c)) (value_same y (right (reads x) (reads y) branches))
     value_same (make p args) h = ap (option_map (node p)) (values_same args h)
 
-    pub values_same : (es : Expressions) → Same (reads_of_each es) → values_of vs leaves es ≡ values_of ws leaves es
+    pub values_same : (es : Expressions) → Same (reads_of_each es) → values_of vs leaves es ≡ values_of ws others es
     values_same no_more h = refl
     values_same (and_more e es) h =
         ap (λ o. option_and_then (λ u. option_map (more u) (values_of vs leaves es)) o) (value_same e (left (reads e) (reads_of_each es) h))
-        ∙ ap (λ o. option_and_then (λ u. option_map (more u) o) (value_of ws leaves e)) (values_same es (right (reads e) (reads_of_each es) h))
+        ∙ ap (λ o. option_and_then (λ u. option_map (more u) o) (value_of ws others e)) (values_same es (right (reads e) (reads_of_each es) h))
 
 pub range_slice : (a n i j : ℕ) → slice_get (range_with_len a n) i ≡ Some j → j ≡ a + i
 range_slice a zero i j e = absurd (none-some j e)
@@ -103,7 +103,7 @@ module _ (g : Grammar) (parts : List Partition) (visit : Call → Option Result)
     eval_over o agrees None is = refl
     eval_over o agrees (Some e) is =
         let there = found_there (λ (x : Equation). x.target == o) p.equations e is in
-        value_same (values_in g p m) (values_in g p n) (leaf_in p.kids kids) (expression e.expr)
+        value_same (values_in g p m) (values_in g p n) (leaf_in p.kids kids) (leaf_in p.kids kids) (λ i. refl) (expression e.expr)
         (λ i c.
         slice_same (λ j. value_in (m (b.Value j))) (λ j. value_in (n (b.Value j))) (length (occurrences_of g.sorts p)) i
         (ap value_in (agrees (b.Value i) (read_needed p.equations e o i there.0 there.1 c))))
