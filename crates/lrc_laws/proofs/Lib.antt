@@ -3,3 +3,5 @@ pub mod FuelLemmas
 pub mod HeldLemmas
 pub mod ReadLemmas
 pub mod NodeLemmas
+pub mod PartLemmas
+pub mod FormedLemmas
