@@ -77,11 +77,12 @@ module _ (g : Grammar) (formed : IsTrue (is_well_formed g)) (n : ℕ) (p : Produ
   -- an occurrence that is to be defined has exactly one equation
   pub one_equation : (o : ℕ) → IsTrue (is_defined (occurrences_of g.sorts p) o) → count_by (λ (e : Equation). e.target == o) p.equations ≡ 1
   one_equation o h =
+      let at : o ≡ 0 + o = omega arith in
       let x = defined_over (slice_get (occurrences_of g.sorts p) o) h in
       let within = slice_get_within (occurrences_of g.sorts p) o x.0 x.1 in
       let once : is_defined_once p (occurrences_of g.sorts p) ≡ true = (and_parts _ _ (and_parts _ _ production_right).0).1 in
       let test = list_all-range (λ i. option_map_or (λ (x : Occurrence). not x.is_defined || nat_eq (count_by (λ (e : Equation). e.target == i) p.equations) 1) (slice_get (occurrences_of g.sorts p) i) true)
-      0 (length (occurrences_of g.sorts p)) o o once within (omega arith) in
+      0 (length (occurrences_of g.sorts p)) o o once within at in
       eqb-true _ 1 (not_or x.0.is_defined _ (ap (λ (q : Option Occurrence). option_map_or (λ (x : Occurrence). not x.is_defined || nat_eq (count_by (λ (e : Equation). e.target == o) p.equations) 1) q true) (sym x.1) ∙ test) x.2)
 
   pub equation_there : (o : ℕ) → IsTrue (is_defined (occurrences_of g.sorts p) o) → (e : Equation) × (equation_of p o ≡ Some e)

@@ -5,3 +5,4 @@ pub mod ReadLemmas
 pub mod NodeLemmas
 pub mod PartLemmas
 pub mod FormedLemmas
+pub mod DecoratedLemmas
