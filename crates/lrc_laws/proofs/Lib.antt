@@ -6,3 +6,4 @@ pub mod NodeLemmas
 pub mod PartLemmas
 pub mod FormedLemmas
 pub mod DecoratedLemmas
+pub mod OccurrenceLemmas
