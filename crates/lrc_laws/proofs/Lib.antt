@@ -7,3 +7,4 @@ pub mod PartLemmas
 pub mod FormedLemmas
 pub mod DecoratedLemmas
 pub mod OccurrenceLemmas
+pub mod AlikeLemmas
