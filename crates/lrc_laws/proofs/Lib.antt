@@ -8,3 +8,4 @@ pub mod FormedLemmas
 pub mod DecoratedLemmas
 pub mod OccurrenceLemmas
 pub mod AlikeLemmas
+pub mod UniqueLemmas

@@ -91,7 +91,7 @@ kids_of_kinds prods (kid ∷ kids) (symbol d rest) h =
     (bare_of_kind prods d kid.kind ∙ both.0) (kids_of_kinds prods kids rest both.1)
 
 -- a decorated child stands at a sort
-symbol_sort : (prods : List Production) (n : ℕ) (kind : Kind) → IsTrue (is_left prods n kind) → is_sort kind ≡ true
+pub symbol_sort : (prods : List Production) (n : ℕ) (kind : Kind) → IsTrue (is_left prods n kind) → is_sort kind ≡ true
 symbol_sort prods n kind h = let q = left_kind prods n kind h in ap is_sort (sym q.2)
 
 -- the leaf of a number
