@@ -7,6 +7,7 @@ use Rattle.std.proofs.lemmas.Bool.{false≢true, cases_Bool, and_parts, and_from
 use Rattle.std.proofs.lemmas.Option.{slice_get_within, get_or_from_slice_get}
 use Rattle.std.proofs.lemmas.List.Elements.{Contains-append_left, Contains-append_right}
 use Rattle.lrc_base.specs.declared.grammar.Attr.{Attr}
+use Rattle.lrc_base.specs.declared.grammar.Sort.{Sort}
 use Rattle.lrc_base.specs.declared.grammar.Production.{Production}
 use Rattle.lrc_meaning.specs.Tree.{Trees}
 use Rattle.lrc_meaning.specs.Grammar.{Grammar, Occurrence, attrs_of_sort, occurrences_of}
@@ -39,6 +40,14 @@ attr_over : (o : Option Attr) (attr : Attr) (inherited : Bool) → o ≡ Some at
 attr_over o attr true is e = ap (λ q. option_map_or (λ (attr : Attr). attr.inherited) q false) is ∙ e
 attr_over o attr false is e = ap (λ q. option_map_or (λ (attr : Attr). not attr.inherited) q false) is ∙ ap not e
 
+-- what is in a binding became available in its earlier visit
+pub bound_gained : (sorts : List Sort) (parts : List Partition) (p : Production) (u v : ℕ) (x : Bound) → Contains (items_between sorts parts p u v) x → Contains (gained sorts parts p u (segment sorts parts p u)) x
+bound_gained sorts parts p u v x c =
+    let from = gained sorts parts p u (segment sorts parts p u) in
+    let to = used sorts parts p v (segment sorts parts p v) in
+    let kept = member_of_filter (λ y. is_among from y && is_among to y) (items_of sorts parts p) x c in
+    contained from x (and_parts (is_among from x) (is_among to x) kept.1).0
+
 module _ (g : Grammar) (parts : List Partition) (p : Production) where
   -- an attribute is among those of its visit
   pub attr_of_visit : (s x : ℕ) (attr : Attr) (inherited : Bool) → slice_get (attrs_of_sort g.sorts s) x ≡ Some attr → attr.inherited ≡ inherited
@@ -49,14 +58,6 @@ module _ (g : Grammar) (parts : List Partition) (p : Production) where
       (member_range 0 (length (attrs_of_sort g.sorts s)) x (omega arith) (omega (arith, within)))
       (and_from (is_of (attrs_of_sort g.sorts s) inherited x) (visit_of parts s x == visit_of parts s x)
       (attr_over (slice_get (attrs_of_sort g.sorts s) x) attr inherited there is) (eq-eqb (visit_of parts s x) (visit_of parts s x) refl))
-
-  -- what is in a binding became available in its earlier visit
-  pub bound_gained : (u v : ℕ) (x : Bound) → Contains (items_between g.sorts parts p u v) x → Contains (gained g.sorts parts p u (segment g.sorts parts p u)) x
-  bound_gained u v x c =
-      let from = gained g.sorts parts p u (segment g.sorts parts p u) in
-      let to = used g.sorts parts p v (segment g.sorts parts p v) in
-      let kept = member_of_filter (λ y. is_among from y && is_among to y) (items_of g.sorts parts p) x c in
-      contained from x (and_parts (is_among from x) (is_among to x) kept.1).0
 
   -- what a done action makes became available in one of the visits
   pub made_gained : (x : Action) (y : Bound) (done : IsDone g.sorts parts p x) → Contains (makes g.sorts parts p x) y → Contains (gained g.sorts parts p done.0 (segment g.sorts parts p done.0)) y
@@ -78,7 +79,7 @@ module _ (g : Grammar) (parts : List Partition) (p : Production) where
         let bounds = member_of_range 1 (v - 1) u found.1 in
         let low = bounds.0 in
         let high = bounds.1 in
-        earlier u low (omega (arith, low, high)) x (bound_gained u v x found.2))
+        earlier u low (omega (arith, low, high)) x (bound_gained g.sorts parts p u v x found.2))
 
     alike_in : (v : ℕ) → 1 ≤ v → v ≤ visits_of parts p.left → ((u : ℕ) → 1 ≤ u → u < v → AgreeIn u) → AgreeIn v
     alike_in v first last earlier =

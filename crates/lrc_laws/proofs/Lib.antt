@@ -9,3 +9,4 @@ pub mod DecoratedLemmas
 pub mod OccurrenceLemmas
 pub mod AlikeLemmas
 pub mod UniqueLemmas
+pub mod FreshLemmas
