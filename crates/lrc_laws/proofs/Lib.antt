@@ -10,3 +10,4 @@ pub mod OccurrenceLemmas
 pub mod AlikeLemmas
 pub mod UniqueLemmas
 pub mod FreshLemmas
+pub mod BackLemmas
