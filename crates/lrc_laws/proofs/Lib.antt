@@ -11,3 +11,4 @@ pub mod AlikeLemmas
 pub mod UniqueLemmas
 pub mod FreshLemmas
 pub mod BackLemmas
+pub mod BuildLemmas

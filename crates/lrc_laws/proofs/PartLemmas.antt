@@ -159,7 +159,7 @@ later_symbol g whole e ds i place h = record { tree = h.tree; is_there = h.is_th
 
 module _ (g : Grammar) where
   -- a kid that is a leaf has no occurrences and is no symbol
-  leaf_kid : (kind : Kind) (start : ℕ) → is_sort kind ≡ false → (symbol_of kind start None ≡ []) × (length (attrs_of g.sorts kind) ≡ 0)
+  pub leaf_kid : (kind : Kind) (start : ℕ) → is_sort kind ≡ false → (symbol_of kind start None ≡ []) × (length (attrs_of g.sorts kind) ≡ 0)
   leaf_kid k.Int start h = (refl, refl)
   leaf_kid k.Bool start h = (refl, refl)
   leaf_kid k.Name start h = (refl, refl)
@@ -210,10 +210,10 @@ module _ (g : Grammar) where
           let r = later i e in (later_symbol g whole d (symbols_in rest) i place r.0, r.1)
 
   -- how many occurrences a local and a nonterminal attribute have
-  extra_plain : (x : Extra) → x.attached ≡ false → length (extra_occurrences g.sorts x) ≡ 1
+  pub extra_plain : (x : Extra) → x.attached ≡ false → length (extra_occurrences g.sorts x) ≡ 1
   extra_plain x h = ap (λ b. suc (length (cond b (map symbol_occurrence (attrs_of g.sorts x.kind)) []))) h
 
-  extra_attached : (x : Extra) → x.attached ≡ true → length (extra_occurrences g.sorts x) ≡ suc (length (attrs_of g.sorts x.kind))
+  pub extra_attached : (x : Extra) → x.attached ≡ true → length (extra_occurrences g.sorts x) ≡ suc (length (attrs_of g.sorts x.kind))
   extra_attached x h =
       ap (λ b. suc (length (cond b (map symbol_occurrence (attrs_of g.sorts x.kind)) []))) h
       ∙ ap suc (length-map (attrs_of g.sorts x.kind) symbol_occurrence)
