@@ -62,7 +62,7 @@ leaf_fits prods (node n kids) kind s h =
     let q = left_kind prods n kind (sym (node_of_kind prods n kids kind) ∙ h) in
     absurd (false≢true (sym s ∙ ap is_sort (sym q.2)))
 
-range_split : {X : Type 0} (f : ℕ → X) (a n m : ℕ) → map f (range_with_len a (n + m)) ≡ map f (range_with_len a n) ++ map f (range_with_len (a + n) m)
+pub range_split : {X : Type 0} (f : ℕ → X) (a n m : ℕ) → map f (range_with_len a (n + m)) ≡ map f (range_with_len a n) ++ map f (range_with_len (a + n) m)
 range_split f a zero m =
     let count : 0 + m ≡ m = omega arith in
     let at : a ≡ a + 0 = omega arith in

@@ -62,7 +62,7 @@ module _ {X : Type 0} (p : X → Bool) where
   find_one (y ∷ ys) (suc i) x c e h =
       find_past (p y) y ys x (count_by-step y ys 1 c) (counted ys i x e h) (λ d. find_one ys i x d e h)
 
-defined_over : (o : Option Occurrence) → option_map_or (λ (x : Occurrence). x.is_defined) o false ≡ true → (x : Occurrence) × (o ≡ Some x) × (x.is_defined ≡ true)
+pub defined_over : (o : Option Occurrence) → option_map_or (λ (x : Occurrence). x.is_defined) o false ≡ true → (x : Occurrence) × (o ≡ Some x) × (x.is_defined ≡ true)
 defined_over None h = absurd (false≢true h)
 defined_over (Some x) h = (x, refl, h)
 

@@ -12,3 +12,4 @@ pub mod UniqueLemmas
 pub mod FreshLemmas
 pub mod BackLemmas
 pub mod BuildLemmas
+pub mod TreeLemmas
