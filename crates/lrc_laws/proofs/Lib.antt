@@ -13,3 +13,4 @@ pub mod FreshLemmas
 pub mod BackLemmas
 pub mod BuildLemmas
 pub mod TreeLemmas
+pub mod PartitionLemmas
