@@ -14,3 +14,4 @@ pub mod BackLemmas
 pub mod BuildLemmas
 pub mod TreeLemmas
 pub mod PartitionLemmas
+pub mod RootLemmas

@@ -1,8 +1,13 @@
 -- Laws of attributions and plain visits.
-use Rattle.std.specs.Prelude.{◌≡◌, ℕ, ◌≤◌, ◌<◌, List, Some, None}
+use Rattle.std.specs.Prelude.{◌≡◌, ℕ, ◌≤◌, ◌<◌, IsTrue, List, Some, None, All, ◌↔◌}
+use Rattle.lrc_base.specs.declared.grammar.Kind.TheVariants as k
+use Rattle.lrc_meaning.specs.Tree.{Tree, fits}
+use Rattle.lrc_meaning.specs.Grammar.{Grammar, is_well_formed}
+use Rattle.lrc_meaning.specs.Attribution.{Decorated, IsAttribution, Attributes}
 use Rattle.lrc_order.specs.declared.Partition.{Partition}
-use Rattle.lrc_meaning.specs.Grammar.{Grammar}
-use Rattle.lrc_visit_meaning.specs.Values.{Call, Result}
+use Rattle.lrc_order.specs.Ordered.{IsGivenThere, Partitions, ArePartitions}
+use Rattle.lrc_sequence.specs.Sound.{IsSound}
+use Rattle.lrc_visit_meaning.specs.Values.{Call, Result, root_call}
 use Rattle.lrc_visit_meaning.specs.Visits.{plain_visit}
 
 -- a visit is no higher than its fuel, and from its height on each fuel gives the same result
@@ -14,3 +19,26 @@ MoreFuelGivesTheSame = (g : Grammar) (parts : List Partition) (fuel : ℕ) (c : 
 abbrev pub LessFuelGivesNone : Type 0
 LessFuelGivesNone = (g : Grammar) (parts : List Partition) (fuel other : ℕ) (c : Call) (r : Result) → plain_visit g parts fuel c ≡ Some r
     → other < r.height → plain_visit g parts other c ≡ None
+
+-- A well-formed grammar with its partitions, whose visit sequences are sound for each production.
+pub record HasSoundPlan (g : Grammar) (found : Partitions) : Type 0 where
+  pub formed : IsTrue (is_well_formed g)
+  pub given : All (IsGivenThere g.sorts) found.given
+  pub partitions : ArePartitions g found
+  pub sound : All (IsSound g.sorts found.sorts) g.prods
+
+-- a tree of the start sort has one attribution at most, of whatever height
+abbrev pub AttributionsAreUnique : Type 0
+AttributionsAreUnique = (g : Grammar) (found : Partitions) → HasSoundPlan g found → (t : Tree) (d e : Decorated) → IsTrue (fits g.prods t (k.Sort g.start))
+    → IsAttribution g t d → IsAttribution g t e → d ≡ e
+
+-- the root's visit has a result with this fuel, with these values
+pub record RootGives (g : Grammar) (found : Partitions) (fuel : ℕ) (t : Tree) (vs : List Tree) : Type 0 where
+  pub result : Result
+  pub is_result : plain_visit g found.sorts fuel (root_call t) ≡ Some result
+  pub values : result.synthesised ≡ vs
+
+-- the attributes of a tree of the start sort within a limit are exactly what its root's visit gives with that fuel
+abbrev pub VisitsGiveAttributes : Type 0
+VisitsGiveAttributes = (g : Grammar) (found : Partitions) → HasSoundPlan g found → (limit : ℕ) (t : Tree) (vs : List Tree) → IsTrue (fits g.prods t (k.Sort g.start))
+    → Attributes g limit t vs ↔ RootGives g found limit t vs

@@ -2,6 +2,8 @@
 //! does nothing, and carries a law as its contract.
 #![tactic(auto)]
 
+mod attribution;
 mod fuel;
 
+pub use attribution::{attribution_is_unique, visits_compute_the_attribution};
 pub use fuel::height_is_least_fuel;
