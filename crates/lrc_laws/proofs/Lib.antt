@@ -15,3 +15,4 @@ pub mod BuildLemmas
 pub mod TreeLemmas
 pub mod PartitionLemmas
 pub mod RootLemmas
+pub mod EndlessLemmas

@@ -3,7 +3,9 @@
 #![tactic(auto)]
 
 mod attribution;
+mod examples;
 mod fuel;
 
 pub use attribution::{attribution_is_unique, visits_compute_the_attribution};
+pub use examples::endless_expansion_has_no_attribution;
 pub use fuel::height_is_least_fuel;
