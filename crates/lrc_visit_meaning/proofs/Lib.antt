@@ -1,1 +1,2 @@
 pub mod EndlessLemmas
+pub mod DeclarationLemmas
