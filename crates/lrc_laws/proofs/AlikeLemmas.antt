@@ -1,9 +1,9 @@
 -- Two on which all actions of a plan are made, from the same inherited values, hold the same at each occurrence.
-use Rattle.std.proofs.Common.{◌≡◌, ℕ, zero, suc, ◌+◌, ◌-◌, ◌<◌, ◌≤◌, Bool, true, false, not, ◌&&◌, ◌==◌, IsTrue, cond, List, [], ◌∷◌, ◌++◌, map, length, get_or, Contains, Option, Some, None, ◌⊎◌, inl, inr, slice_get, refl, sym, ap, ◌∙◌, subst, arith}
-use Rattle.std.specs.Prelude.{flat_map, slice_index_or}
+use Rattle.std.proofs.Common.{◌≡◌, ℕ, zero, suc, ◌+◌, ◌-◌, ◌<◌, ◌≤◌, Bool, true, false, not, ◌&&◌, ◌==◌, IsTrue, cond, List, [], ◌++◌, map, length, Contains, Option, Some, inl, inr, slice_get, refl, sym, ap, ◌∙◌, subst, arith}
+use Rattle.std.specs.Prelude.{flat_map}
 use Rattle.std.specs.Option.{option_map_or}
 use Rattle.std.specs.List.{range_with_len}
-use Rattle.std.proofs.lemmas.Bool.{false≢true, cases_Bool, and_parts, and_from, eq-eqb, cases_eq, not-false}
+use Rattle.std.proofs.lemmas.Bool.{cases_Bool, and_parts, and_from, eq-eqb}
 use Rattle.std.proofs.lemmas.Option.{slice_get_within, get_or_from_slice_get}
 use Rattle.std.proofs.lemmas.List.Elements.{Contains-append_left, Contains-append_right}
 use Rattle.lrc_base.specs.declared.grammar.Attr.{Attr}
@@ -29,7 +29,7 @@ use Rattle.lrc_laws.proofs.ListLemmas.{member_map, member_flat, member_of_flat, 
 use Rattle.lrc_laws.proofs.HeldLemmas.{Agree, agree_both, agree_right, made_alike}
 use Rattle.lrc_laws.proofs.ReadLemmas.{step_reads}
 use Rattle.lrc_laws.proofs.NodeLemmas.{AllMade}
-use Rattle.lrc_laws.proofs.OccurrenceLemmas.{IsOfSymbol, IsOwn, occurrence_cases}
+use Rattle.lrc_laws.proofs.OccurrenceLemmas.{occurrence_cases}
 
 -- each attribute of a sort is taken or given in one of its visits
 abbrev pub AreVisited : Grammar → List Partition → Type 0

@@ -1,41 +1,38 @@
 -- From a node that serves all its visits: what it holds, on which all actions of its plan are made.
-use Rattle.std.proofs.Common.{◌≡◌, ℕ, zero, suc, ◌+◌, ◌-◌, ◌<◌, ◌≤◌, Bool, true, false, not, ◌&&◌, ◌==◌, IsTrue, cond, List, [], ◌∷◌, ◌++◌, map, length, get_or, Contains, All, Option, Some, None, ◌⊎◌, inl, inr, slice_get, refl, sym, ap, ◌∙◌, subst, arith}
+use Rattle.std.proofs.Common.{◌≡◌, ℕ, zero, suc, ◌+◌, ◌-◌, ◌<◌, ◌≤◌, Bool, true, false, IsTrue, cond, List, [], ◌∷◌, ◌++◌, map, length, get_or, Contains, Option, Some, inl, inr, slice_get, refl, sym, ap, ◌∙◌, subst, arith}
 use Rattle.std.specs.Prelude.{flat_map}
-use Rattle.std.specs.Option.{option_map, option_map_or, option_and_then}
+use Rattle.std.specs.Option.{option_map_or, option_and_then}
 use Rattle.std.specs.List.{range_with_len}
-use Rattle.std.proofs.lemmas.Bool.{cases_Bool, cases_lt, true≢false, and_parts}
+use Rattle.std.proofs.lemmas.Bool.{cases_Bool, true≢false}
 use Rattle.std.proofs.lemmas.Option.{none-some, same_Some, slice_get-get_or, slice_get_within}
 use Rattle.std.proofs.lemmas.List.{map-append, length-map, length-append}
-use Rattle.std.proofs.lemmas.List.FromFn.{length-range_with_len}
 use Rattle.std.proofs.lemmas.List.Elements.{All-contains, Contains-append_left, Contains-append_right, Contains-append_cases}
 use Rattle.lrc_base.specs.declared.grammar.Attr.{Attr}
 use Rattle.lrc_base.specs.declared.grammar.Kind.TheVariants as k
 use Rattle.lrc_base.specs.declared.grammar.Production.{Production}
 use Rattle.lrc_meaning.specs.Tree.{Tree, int, bool, name, node, Trees}
 use Rattle.lrc_meaning.specs.Grammar.{Grammar, attrs_of_sort}
-use Rattle.lrc_order.specs.declared.Place.{Place}
 use Rattle.lrc_order.specs.declared.Partition.{Partition}
 use Rattle.lrc_sequence.specs.declared.Action.{Action}
 use Rattle.lrc_sequence.specs.declared.Action.TheVariants as a
 use Rattle.lrc_sequence.specs.declared.Bound.{Bound}
 use Rattle.lrc_sequence.specs.declared.Bound.TheVariants as b
-use Rattle.lrc_sequence.specs.Items.{is_among, visit_of, visits_of, attrs_of_visit, values_of_visit, symbol_at, makes, needs}
+use Rattle.lrc_sequence.specs.Items.{is_among, visit_of, visits_of, attrs_of_visit, values_of_visit, symbol_at, makes}
 use Rattle.lrc_sequence.specs.Sequences.{segment}
 use Rattle.lrc_sequence.specs.Bindings.{gained, binding as items_between}
-use Rattle.lrc_sequence.specs.Sound.{handed_in, handed_out, IsDone, IsSound}
+use Rattle.lrc_sequence.specs.Sound.{handed_in, handed_out, IsSound}
 use Rattle.lrc_sequence.proofs.ItemLemmas.{contained, among}
-use Rattle.lrc_visit_meaning.specs.Values.{Datum, value, binding, Data, no_data, data_row, data_list, value_in, binding_in, Call, Result}
-use Rattle.lrc_visit_meaning.specs.Visits.{Held, nothing_held, holding, Given, Walked, walk, are_of_kinds, is_of_kind, tree_at, call_of, given_by, values_at, held_at_start, result_of, evaluated, step, visit_of_node, visit_of_tree, one_visit, plain_visit}
-use Rattle.lrc_laws.proofs.ListLemmas.{member_first, member_later, member_cases, no_member, member_map, member_of_map, member_flat, member_of_flat, member_range, member_of_range, map_map, map_agree, map_told, map_flat, flat_of_map, flat_agree}
+use Rattle.lrc_visit_meaning.specs.Values.{value, binding, no_data, data_row, data_list, value_in, Call, Result}
+use Rattle.lrc_visit_meaning.specs.Visits.{Held, nothing_held, holding, Given, Walked, walk, are_of_kinds, is_of_kind, tree_at, call_of, given_by, held_at_start, result_of, evaluated, step, visit_of_node, visit_of_tree, one_visit, plain_visit}
+use Rattle.lrc_laws.proofs.ListLemmas.{member_first, member_later, member_cases, no_member, member_map, member_flat, member_of_flat, member_range, member_of_range, map_map, map_agree, map_told, map_flat, flat_of_map, flat_agree}
 use Rattle.lrc_laws.proofs.FuelLemmas.{mapped, bound_by, where_true}
-use Rattle.lrc_laws.proofs.HeldLemmas.{Agree, agree_both, agree_then, agree_back, holding_agrees, IsMade}
+use Rattle.lrc_laws.proofs.HeldLemmas.{Agree, holding_agrees, IsMade}
 use Rattle.lrc_laws.proofs.ReadLemmas.{step_reads}
-use Rattle.lrc_laws.proofs.NodeLemmas.{Face, list_of_row, asked, Answers, ServesOne, Serves, symbol_face, AllMade, call_asks}
+use Rattle.lrc_laws.proofs.NodeLemmas.{Face, list_of_row, asked, Answers, ServesOne, Serves, AllMade}
 use Rattle.lrc_laws.proofs.PartLemmas.{node_of_kind, left_kind}
 use Rattle.lrc_laws.proofs.DecoratedLemmas.{sort_same}
-use Rattle.lrc_laws.proofs.AlikeLemmas.{AreVisited, attr_of_visit, bound_gained, made_gained}
+use Rattle.lrc_laws.proofs.AlikeLemmas.{AreVisited, attr_of_visit, bound_gained}
 use Rattle.lrc_laws.proofs.FreshLemmas.{gained_once, segment_fresh, ready_needs, walk_makes, made_on}
-use Rattle.lrc_laws.proofs.UniqueLemmas.{fronts_same, attr_in_visit}
 
 module _ (g : Grammar) (parts : List Partition) where
   -- a visit answers as many values and bindings as its plan says
@@ -223,8 +220,7 @@ module _ (g : Grammar) (parts : List Partition) where
           let high = bounds.1 in
           let less : u < v = omega (arith, low, high) in
           let hu : u ≤ count = omega (arith, less, last) in
-          let gained_there = bound_gained g.sorts parts p u v y d in
-          (
+          let gained_there = bound_gained g.sorts parts p u v y d in (
             low,
             hu,
             less,

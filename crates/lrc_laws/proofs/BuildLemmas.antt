@@ -1,47 +1,34 @@
 -- A tree that serves its visits has an attribution with the values that it shows.
-use Rattle.std.proofs.Common.{◌≡◌, ℕ, zero, suc, ◌+◌, ◌-◌, ◌<◌, ◌≤◌, max, Bool, true, false, not, ◌&&◌, ◌||◌, ◌==◌, IsTrue, cond, List, [], ◌∷◌, ◌++◌, map, length, get_or, Contains, Option, Some, None, ◌⊎◌, inl, inr, slice_get, refl, sym, ap, ◌∙◌, subst, arith, length-append}
+use Rattle.std.proofs.Common.{◌≡◌, ℕ, zero, suc, ◌+◌, ◌-◌, ◌<◌, ◌≤◌, Bool, true, false, not, ◌&&◌, ◌||◌, IsTrue, cond, List, [], ◌∷◌, ◌++◌, map, length, Option, Some, None, inl, inr, slice_get, refl, sym, ap, ◌∙◌, subst, arith, length-append}
 use Rattle.std.specs.Prelude.{flat_map, slice_index_or}
-use Rattle.std.specs.Option.{option_map, option_map_or, option_and_then}
-use Rattle.std.specs.List.{range_with_len, list_all, find, AllByRecursion}
-use Rattle.std.proofs.lemmas.Bool.{cases_Bool, cases_lt, true≢false, false≢true, and_parts, and_from, not-true, eqb-true, eq-eqb, lt-ltb, ltb-true}
-use Rattle.std.proofs.lemmas.Option.{none-some, same_Some, slice_get-map, slice_get-get_or, slice_get_within, get_or_from_slice_get}
-use Rattle.std.proofs.lemmas.List.{map-append, map-id, length-map, get_or_append_left, get_or-append-add}
-use Rattle.std.proofs.lemmas.List.FromFn.{length-map-range_with_len}
-use Rattle.lrc_base.specs.declared.grammar.Attr.{Attr}
+use Rattle.std.specs.Option.{option_map_or}
+use Rattle.std.specs.List.{range_with_len, list_all}
+use Rattle.std.proofs.lemmas.Bool.{cases_Bool, false≢true, and_parts, and_from}
+use Rattle.std.proofs.lemmas.List.{map-append, map-id, length-map}
 use Rattle.lrc_base.specs.declared.grammar.Kind.{Kind}
 use Rattle.lrc_base.specs.declared.grammar.Kind.TheVariants as k
 use Rattle.lrc_base.specs.declared.grammar.Kid.{Kid}
 use Rattle.lrc_base.specs.declared.grammar.Extra.{Extra}
-use Rattle.lrc_base.specs.declared.grammar.Equation.{Equation}
 use Rattle.lrc_base.specs.declared.grammar.Production.{Production}
-use Rattle.lrc_meaning.specs.Tree.{Tree, int, bool, name, node, Trees, none, more, is_sort, same_kind, is_left, fits}
-use Rattle.lrc_meaning.specs.Expression.{expression, value_of}
-use Rattle.lrc_meaning.specs.Grammar.{Grammar, Occurrence, attrs_of_sort, attrs_of, own_occurrence, symbol_occurrence, extra_occurrences, occurrences_of, is_known, is_well_formed}
+use Rattle.lrc_meaning.specs.Tree.{Tree, int, bool, name, node, Trees, none, more, is_sort, is_left, fits}
+use Rattle.lrc_meaning.specs.Grammar.{Grammar, attrs_of_sort, attrs_of, symbol_occurrence, extra_occurrences, is_known}
 use Rattle.lrc_meaning.specs.Attribution.{Decorated, at_node, Parts, end, symbol, bare, bare_kids, attributes_of, production_of, kid_values, extra_values, occurrence_values, leaf_at, kids_agree, extras_agree, Holds, IsRight, AreRight, height, highest}
 use Rattle.lrc_meaning.specs.Attribution as m
 use Rattle.lrc_order.specs.declared.Place.{Place}
 use Rattle.lrc_order.specs.declared.Partition.{Partition}
-use Rattle.lrc_order.specs.Needs.{symbol_of, kid_symbols, extra_symbols, symbols_of, left_place, own_end, kids_end, kid_count, extra_count}
-use Rattle.lrc_sequence.specs.declared.Action.{Action}
+use Rattle.lrc_order.specs.Needs.{symbol_of, kid_symbols, extra_symbols, kid_count, extra_count}
 use Rattle.lrc_sequence.specs.declared.Action.TheVariants as a
-use Rattle.lrc_sequence.specs.declared.Bound.{Bound}
 use Rattle.lrc_sequence.specs.declared.Bound.TheVariants as b
-use Rattle.lrc_sequence.specs.Items.{visits_of, attrs_of_visit, values_of_visit, symbol_at, makes}
-use Rattle.lrc_sequence.specs.Sequences.{is_defined}
-use Rattle.lrc_sequence.specs.Sound.{IsSound, IsVisitThere}
-use Rattle.lrc_visit_meaning.specs.Values.{Datum, value, binding, value_in, binding_in, no_tree, Call, Result}
-use Rattle.lrc_visit_meaning.specs.Visits.{Held, Given, is_of_kind, are_of_kinds, leaf_in, symbol_trees, values_in, equation_of, evaluated, tree_at, call_of, given_by, step, one_visit, plain_visit}
-use Rattle.lrc_laws.proofs.ListLemmas.{map_map, map_agree, map_told, member_first}
-use Rattle.lrc_laws.proofs.FuelLemmas.{mapped, bound_by, where_true}
+use Rattle.lrc_sequence.specs.Items.{visits_of, attrs_of_visit, symbol_at}
+use Rattle.lrc_visit_meaning.specs.Values.{value, binding, value_in, binding_in, no_tree, Call, Result}
+use Rattle.lrc_visit_meaning.specs.Visits.{Held, Given, is_of_kind, are_of_kinds, symbol_trees, evaluated, tree_at, call_of, given_by, step}
+use Rattle.lrc_laws.proofs.ListLemmas.{map_map}
+use Rattle.lrc_laws.proofs.FuelLemmas.{mapped, where_true}
 use Rattle.lrc_laws.proofs.HeldLemmas.{IsMade}
-use Rattle.lrc_laws.proofs.ReadLemmas.{value_same}
-use Rattle.lrc_laws.proofs.NodeLemmas.{Face, Serves, ServesOne, symbol_face, AllMade, call_asks}
-use Rattle.lrc_laws.proofs.PartLemmas.{left_kind, node_of_kind, leaf_same, leaf_kid, extra_plain, extra_attached}
-use Rattle.lrc_laws.proofs.FormedLemmas.{list_all-at, production_right, one_equation, find_one, target_defined}
-use Rattle.lrc_laws.proofs.DecoratedLemmas.{AreSound, sort_same}
-use Rattle.lrc_laws.proofs.AlikeLemmas.{AreVisited}
+use Rattle.lrc_laws.proofs.NodeLemmas.{ServesOne, symbol_face, call_asks}
+use Rattle.lrc_laws.proofs.PartLemmas.{left_kind, node_of_kind, leaf_kid, extra_plain, extra_attached}
 use Rattle.lrc_laws.proofs.UniqueLemmas.{fronts_same}
-use Rattle.lrc_laws.proofs.BackLemmas.{AreWhole, plain_whole, Served, served_visit, node_holds, node_all_made, node_shows}
+use Rattle.lrc_laws.proofs.BackLemmas.{AreWhole}
 
 -- each sort that is there has a visit
 abbrev pub AreSome : Grammar → List Partition → Type 0
@@ -101,8 +88,7 @@ module _ (g : Grammar) (parts : List Partition) (visit : Call → Option Result)
       ap (λ (q : Given). q.made) found.2 ∙ h.made ∙ map-append held values bounds in
       let count : length (map value r.synthesised) ≡ length (map held values) =
       length-map r.synthesised value ∙ whole.values ∙ sym (length-map outs (λ x. b.Value (place.start + x))) ∙ sym (length-map values held) in
-      let split = fronts_same (map value r.synthesised) (map held values) (map binding r.bindings) (map held bounds) count lists in
-      (
+      let split = fronts_same (map value r.synthesised) (map held values) (map binding r.bindings) (map held bounds) count lists in (
         inside.0,
         record {
           result = r;

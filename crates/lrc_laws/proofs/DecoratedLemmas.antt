@@ -1,17 +1,17 @@
 -- What a decorated node holds, and that all actions of its plan are made on it where its symbols serve their visits.
-use Rattle.std.proofs.Common.{◌≡◌, ℕ, zero, suc, ◌+◌, ◌-◌, ◌<◌, ◌≤◌, max, Bool, true, false, IsTrue, ◌==◌, cond, List, [], ◌∷◌, ◌++◌, map, length, get_or, Contains, Option, Some, None, ◌⊎◌, inl, inr, slice_get, refl, sym, ap, ◌∙◌, subst, arith, append_assoc, length-append}
+use Rattle.std.proofs.Common.{◌≡◌, ℕ, zero, suc, ◌+◌, ◌-◌, ◌<◌, ◌≤◌, IsTrue, ◌==◌, List, [], ◌∷◌, ◌++◌, map, length, get_or, Contains, Option, Some, ◌⊎◌, inl, inr, slice_get, refl, sym, ap, ◌∙◌, subst, arith, append_assoc, length-append}
 use Rattle.std.specs.Prelude.{flat_map, slice_index_or}
 use Rattle.std.specs.Option.{option_map, option_map_or, option_and_then}
-use Rattle.std.specs.List.{range_with_len, find, AllByRecursion}
-use Rattle.std.proofs.lemmas.Bool.{false≢true, cases_lt, eqb-true}
+use Rattle.std.specs.List.{AllByRecursion}
+use Rattle.std.proofs.lemmas.Bool.{cases_lt, eqb-true}
 use Rattle.std.proofs.lemmas.Option.{none-some, same_Some, slice_get-map, slice_get_within, slice_get-get_or, get_or_from_slice_get}
-use Rattle.std.proofs.lemmas.List.{length-map, get_or_append_left, get_or-append-add, map-append}
+use Rattle.std.proofs.lemmas.List.{length-map, get_or_append_left, get_or-append-add}
 use Rattle.std.proofs.lemmas.List.FromFn.{fill_by_all}
 use Rattle.lrc_base.specs.declared.grammar.Kind.TheVariants as k
 use Rattle.lrc_base.specs.declared.grammar.Kid.{Kid}
 use Rattle.lrc_base.specs.declared.grammar.Equation.{Equation}
 use Rattle.lrc_base.specs.declared.grammar.Production.{Production}
-use Rattle.lrc_meaning.specs.Tree.{Tree, Trees, node, is_left}
+use Rattle.lrc_meaning.specs.Tree.{Tree, node, is_left}
 use Rattle.lrc_meaning.specs.Expression.{expression, value_of}
 use Rattle.lrc_meaning.specs.Grammar.{Grammar, attrs_of_sort, attrs_of, occurrences_of, own_occurrence, symbol_occurrence, extra_occurrences, is_well_formed}
 use Rattle.lrc_meaning.specs.Attribution.{Decorated, at_node, Parts, end, symbol, bare, bare_kids, attributes_of, production_of, kid_values, extra_values, occurrence_values, leaf_at, kids_agree, extras_agree, Holds, IsNodeRight, IsRight, AreRight, height, highest}
@@ -19,22 +19,20 @@ use Rattle.lrc_meaning.specs.Attribution as m
 use Rattle.lrc_order.specs.declared.Place.{Place}
 use Rattle.lrc_order.specs.declared.Partition.{Partition}
 use Rattle.lrc_order.specs.Needs.{symbols_of, kid_symbols, extra_symbols, own_end, kids_end, left_place}
-use Rattle.lrc_sequence.specs.declared.Action.{Action}
 use Rattle.lrc_sequence.specs.declared.Action.TheVariants as a
 use Rattle.lrc_sequence.specs.declared.Bound.{Bound}
 use Rattle.lrc_sequence.specs.declared.Bound.TheVariants as b
-use Rattle.lrc_sequence.specs.Items.{symbol_at, makes, visits_of}
-use Rattle.lrc_sequence.specs.Sequences.{is_defined}
+use Rattle.lrc_sequence.specs.Items.{symbol_at}
 use Rattle.lrc_sequence.specs.Bindings.{binding as items_between}
-use Rattle.lrc_sequence.specs.Sound.{IsDone, IsSound, IsVisitThere}
-use Rattle.lrc_visit_meaning.specs.Values.{Datum, value, binding, Data, no_data, data_row, value_in, binding_in, no_tree, Call, Result}
-use Rattle.lrc_visit_meaning.specs.Visits.{Held, Given, values_in, leaf_in, symbol_trees, equation_of, evaluated, tree_at, is_of_kind, are_of_kinds, step, one_visit, plain_visit}
+use Rattle.lrc_sequence.specs.Sound.{IsSound, IsVisitThere}
+use Rattle.lrc_visit_meaning.specs.Values.{value, binding, Data, no_data, data_row, value_in, no_tree, Call, Result}
+use Rattle.lrc_visit_meaning.specs.Visits.{Held, values_in, leaf_in, symbol_trees, equation_of, evaluated, tree_at, is_of_kind, step, one_visit, plain_visit}
 use Rattle.lrc_laws.proofs.ListLemmas.{member_slice, slice_of_member}
 use Rattle.lrc_laws.proofs.FuelLemmas.{max_left, max_right}
 use Rattle.lrc_laws.proofs.HeldLemmas.{IsMade}
 use Rattle.lrc_laws.proofs.ReadLemmas.{found_there, value_same}
-use Rattle.lrc_laws.proofs.NodeLemmas.{Face, IsProper, Serves, ServesOne, own_face, symbol_face, AllMade, AreAlike, serves_alike, visit_made, node_serves}
-use Rattle.lrc_laws.proofs.PartLemmas.{symbols_in, symbols_right, symbols_low, left_kind, bare_of_kind, kids_of_kinds, leaf_same, symbol_trees_are, SymbolThere, AttachedThere, kid_symbol, extra_symbol, kid_counts, extra_counts}
+use Rattle.lrc_laws.proofs.NodeLemmas.{Face, IsProper, Serves, own_face, symbol_face, AllMade, AreAlike, serves_alike, visit_made, node_serves}
+use Rattle.lrc_laws.proofs.PartLemmas.{symbols_in, symbols_right, symbols_low, left_kind, bare_of_kind, kids_of_kinds, leaf_same, symbol_trees_are, kid_symbol, extra_symbol, kid_counts, extra_counts}
 use Rattle.lrc_laws.proofs.FormedLemmas.{equation_there}
 
 abbrev pub no_bound : ℕ → ℕ → Data
@@ -115,8 +113,7 @@ module _ (g : Grammar) (parts : List Partition) where
         let count : own_end g.sorts q ≡ length own = sym right.owns in
         let found = kid_symbol g q.kids kids own (extra_values extras) (own_end g.sorts q) s place count right.has_kids kids_right (slice_get-get_or kid_places s (left_place q) less) in
         let d = found.0.tree in
-        let within : s < length (bounds_of kids) = subst (λ n. s < n) (sym (bounds_count kids)) (slice_get_within (symbols_in kids) s d found.0.is_there) in
-        (
+        let within : s < length (bounds_of kids) = subst (λ n. s < n) (sym (bounds_count kids)) (slice_get_within (symbols_in kids) s d found.0.is_there) in (
           d,
           record {
             among = inl (member_slice (symbols_in kids) s d found.0.is_there);
@@ -143,8 +140,7 @@ module _ (g : Grammar) (parts : List Partition) where
         let d = found.symbol_there.tree in
         let same : (own ++ kid_values kids) ++ extra_values extras ≡ whole = append_assoc own (kid_values kids) (extra_values extras) in
         let bounds = bounds_count kids in
-        let shift : s ≡ length (bounds_of kids) + j = omega (arith, at, bounds, counts.0) in
-        (
+        let shift : s ≡ length (bounds_of kids) + j = omega (arith, at, bounds, counts.0) in (
           d,
           record {
             among = inr (member_slice (symbols_in extras) j d found.symbol_there.is_there);

@@ -1,13 +1,13 @@
 -- Attributions in the endless grammar.
-use Rattle.std.proofs.Common.{◌≡◌, ℕ, zero, suc, ◌+◌, Bool, not, ◌&&◌, IsTrue, List, [], ◌∷◌, ◌++◌, length, pos, Option, Some, None, slice_get, codes, lit≤, true, refl, sym, ap, ◌∙◌, subst, arith}
+use Rattle.std.proofs.Common.{◌≡◌, ℕ, ◌+◌, IsTrue, List, [], ◌∷◌, ◌++◌, length, pos, Some, slice_get, codes, lit≤, true, refl, sym, ap, ◌∙◌, subst, arith}
 use Rattle.std.proofs.lemmas.Bool.{false≢true}
 use Rattle.std.proofs.lemmas.Option.{same_Some}
 use Rattle.lrc_base.specs.declared.grammar.Kind.TheVariants as k
 use Rattle.lrc_base.specs.declared.grammar.Extra.{Extra}
 use Rattle.lrc_base.specs.declared.grammar.Production.{Production}
 use Rattle.lrc_base.specs.declared.expr.Expr.TheVariants as e
-use Rattle.lrc_meaning.specs.Tree.{Tree, node, none, int}
-use Rattle.lrc_meaning.specs.Attribution.{Decorated, at_node, Parts, end, value, symbol, bare, bare_kids, kid_values, extra_values, occurrence_values, kids_agree, extras_agree, IsNodeRight, IsRight, AreRight, IsAttribution, Attributes}
+use Rattle.lrc_meaning.specs.Tree.{Tree, int}
+use Rattle.lrc_meaning.specs.Attribution.{Decorated, at_node, Parts, end, value, symbol, bare, kid_values, extra_values, kids_agree, extras_agree, IsNodeRight, IsRight, AreRight, Attributes}
 use Rattle.lrc_meaning.specs.Examples.{production, equals}
 use Rattle.lrc_meaning.proofs.ExpressionLemmas.{expression_equations}
 use Rattle.lrc_visit_meaning.specs.Examples.{endless, loop, one}

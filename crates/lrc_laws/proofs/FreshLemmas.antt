@@ -1,5 +1,5 @@
 -- Walks that make each item once: at the end each action holds with what was made.
-use Rattle.std.proofs.Common.{◌≡◌, ℕ, zero, suc, ◌+◌, ◌-◌, ◌<◌, ◌≤◌, max, Bool, true, false, cond, List, [], ◌∷◌, ◌++◌, map, length, get_or, Contains, All, Option, Some, None, ◌⊎◌, inl, inr, refl, sym, ap, ◌∙◌, subst, arith, append_assoc, append-nil}
+use Rattle.std.proofs.Common.{◌≡◌, ℕ, zero, suc, ◌+◌, ◌-◌, ◌<◌, ◌≤◌, true, cond, List, [], ◌∷◌, ◌++◌, map, length, Contains, Option, Some, inl, inr, refl, sym, ap, ◌∙◌, subst, arith, append_assoc}
 use Rattle.std.specs.Prelude.{flat_map, AllPairs, ⊤}
 use Rattle.std.specs.List.{range_with_len}
 use Rattle.std.proofs.lemmas.Bool.{cases_order}
@@ -17,9 +17,9 @@ use Rattle.lrc_sequence.specs.Sound.{AreReady, handed_in, IsSound}
 use Rattle.lrc_sequence.proofs.ItemLemmas.{item_itself}
 use Rattle.lrc_visit_meaning.specs.Values.{Datum}
 use Rattle.lrc_visit_meaning.specs.Visits.{Held, Given, Walked, holding, walk}
-use Rattle.lrc_laws.proofs.ListLemmas.{member_first, member_later, member_cases, no_member, member_flat, member_of_flat, member_range, member_of_range, map_agree}
+use Rattle.lrc_laws.proofs.ListLemmas.{member_cases, no_member, member_flat, member_of_flat, member_range, member_of_range, map_agree}
 use Rattle.lrc_laws.proofs.FuelLemmas.{bound_by, walked_on}
-use Rattle.lrc_laws.proofs.HeldLemmas.{Agree, agree_left, agree_right, agree_both, agree_part, holding_other, IsMade, ReadsNeeds, AreMade}
+use Rattle.lrc_laws.proofs.HeldLemmas.{Agree, agree_left, agree_right, agree_part, holding_other, IsMade, ReadsNeeds, AreMade}
 use Rattle.lrc_laws.proofs.AlikeLemmas.{bound_gained}
 
 -- no element stands twice
@@ -100,16 +100,15 @@ module _ (sorts : List Sort) (parts : List Partition) (p : Production) where
   fresh_from [] available h new = tt
   fresh_from (x ∷ xs) available h new =
       let here = makes sorts parts p x in
-      let rest = flat_map (makes sorts parts p) xs in
-      (
+      let rest = flat_map (makes sorts parts p) xs in (
         λ y c. new y (Contains-append_left here rest y c),
         distinct_left here rest h,
         fresh_from xs (available ++ here) (distinct_right here rest h)
-        (λ y c d.
-        elim (Contains-append_cases available here y d) [
-          | inl old ↦ new y (Contains-append_right here rest y c) old
-          | inr made ↦ apart here rest h y made c
-        ]),
+            (λ y c d.
+            elim (Contains-append_cases available here y d) [
+              | inl old ↦ new y (Contains-append_right here rest y c) old
+              | inr made ↦ apart here rest h y made c
+            ]),
       )
 
   -- what an action of a segment needs is among what is available or made
@@ -153,8 +152,7 @@ module _ (sorts : List Sort) (parts : List Partition) (p : Production) where
         let kept : Agree available v.held w.held =
         λ y c. agree_left available here v.held next.held rest.0 y c ∙ holding_other here r.made w.held y (λ d. fresh.0 y d c) in
         let given : map v.held here ≡ r.made =
-        map_agree v.held next.held here (agree_right available here v.held next.held rest.0) ∙ holding_gives here r.made w.held fresh.1 (all w.held x r found.1) in
-        (
+        map_agree v.held next.held here (agree_right available here v.held next.held rest.0) ∙ holding_gives here r.made w.held fresh.1 (all w.held x r found.1) in (
           kept,
           λ y c.
               elim (member_cases x xs y c) [

@@ -1,8 +1,7 @@
 -- A visit is no higher than its fuel, and from its height on fuel does not matter.
-use Rattle.std.proofs.Common.{◌≡◌, ℕ, zero, suc, ◌+◌, ◌<◌, ◌≤◌, max, Bool, true, false, cond, List, [], ◌∷◌, Option, Some, None, ◌⊎◌, inl, inr, refl, sym, ap, ◌∙◌, subst, arith, slice_get}
+use Rattle.std.proofs.Common.{◌≡◌, ℕ, zero, suc, ◌+◌, ◌<◌, ◌≤◌, max, Bool, true, false, cond, List, [], ◌∷◌, Option, Some, None, refl, sym, ap, ◌∙◌, subst, arith, slice_get}
 use Rattle.std.specs.Option.{option_map, option_and_then}
-use Rattle.std.proofs.lemmas.Bool.{false≢true, cases_lt}
-use Rattle.std.proofs.lemmas.Option.{none-some, same_Some, option_and_then_some}
+use Rattle.std.proofs.lemmas.Option.{none-some, same_Some}
 use Rattle.lrc_base.specs.declared.grammar.Kind.TheVariants as k
 use Rattle.lrc_base.specs.declared.grammar.Production.{Production}
 use Rattle.lrc_meaning.specs.Tree.{Tree, int, bool, name, node, Trees}
@@ -13,7 +12,7 @@ use Rattle.lrc_sequence.specs.declared.Action.TheVariants as a
 use Rattle.lrc_sequence.specs.declared.Bound.{Bound}
 use Rattle.lrc_sequence.specs.Items.{symbol_at, makes}
 use Rattle.lrc_sequence.specs.Sequences.{segment}
-use Rattle.lrc_visit_meaning.specs.Values.{value, Call, Result}
+use Rattle.lrc_visit_meaning.specs.Values.{Call, Result}
 use Rattle.lrc_visit_meaning.specs.Visits.{Held, Given, Walked, holding, walk, is_of_kind, are_of_kinds, tree_at, call_of, given_by, held_at_start, result_of, evaluated, step, visit_of_node, visit_of_tree, plain_visit}
 
 -- what an option is made of, where it is there

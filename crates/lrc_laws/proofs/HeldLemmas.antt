@@ -1,9 +1,9 @@
 -- Walks over what is held: two that agree on what is available agree on what is made from it.
-use Rattle.std.proofs.Common.{◌≡◌, ℕ, zero, suc, ◌+◌, ◌<◌, ◌≤◌, max, Bool, true, false, cond, List, [], ◌∷◌, ◌++◌, map, length, Contains, All, Option, Some, None, ◌⊎◌, inl, inr, refl, sym, ap, ◌∙◌, subst, arith, append_assoc, append-nil}
+use Rattle.std.proofs.Common.{◌≡◌, cond, List, [], ◌∷◌, ◌++◌, map, Contains, All, Option, Some, ◌⊎◌, inl, inr, refl, sym, ap, ◌∙◌, subst, append_assoc}
 use Rattle.std.specs.Prelude.{flat_map}
 use Rattle.std.specs.Option.{option_and_then}
 use Rattle.std.proofs.lemmas.Bool.{cases_Bool, false≢true}
-use Rattle.std.proofs.lemmas.Option.{none-some, same_Some}
+use Rattle.std.proofs.lemmas.Option.{same_Some}
 use Rattle.std.proofs.lemmas.List.Elements.{All-contains, Contains-append_left, Contains-append_right, Contains-append_cases}
 use Rattle.lrc_base.specs.declared.grammar.Sort.{Sort}
 use Rattle.lrc_base.specs.declared.grammar.Production.{Production}
@@ -15,8 +15,8 @@ use Rattle.lrc_sequence.specs.Sound.{AreReady}
 use Rattle.lrc_sequence.proofs.ItemLemmas.{same_items, item_itself}
 use Rattle.lrc_visit_meaning.specs.Values.{Datum}
 use Rattle.lrc_visit_meaning.specs.Visits.{Held, Given, Walked, holding, walk}
-use Rattle.lrc_laws.proofs.ListLemmas.{member_first, member_later, member_cases, no_member, map_agree, map_told}
-use Rattle.lrc_laws.proofs.FuelLemmas.{bound_by, walked_on, walk_rises, max_right}
+use Rattle.lrc_laws.proofs.ListLemmas.{member_first, member_later, member_cases, no_member, map_told}
+use Rattle.lrc_laws.proofs.FuelLemmas.{walked_on}
 
 -- what is held is the same at these items
 abbrev pub Agree : List Bound → Held → Held → Type 0

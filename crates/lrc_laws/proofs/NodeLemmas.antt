@@ -1,10 +1,10 @@
 -- What a node shows to the node above it, and that a node on which all is made serves each of its visits.
-use Rattle.std.proofs.Common.{◌≡◌, ℕ, zero, suc, ◌+◌, ◌-◌, ◌<◌, ◌≤◌, Bool, true, false, IsTrue, ◌==◌, ◌&&◌, cond, List, [], ◌∷◌, ◌++◌, map, length, Contains, All, Option, Some, None, ◌⊎◌, inl, inr, slice_get, refl, sym, ap, ◌∙◌, subst, arith}
+use Rattle.std.proofs.Common.{◌≡◌, ℕ, ◌+◌, ◌-◌, ◌<◌, ◌≤◌, Bool, true, false, IsTrue, ◌==◌, ◌&&◌, cond, List, [], ◌∷◌, ◌++◌, map, length, Contains, Option, Some, None, inr, slice_get, refl, sym, ap, ◌∙◌, subst, arith}
 use Rattle.std.specs.Prelude.{flat_map}
 use Rattle.std.specs.Option.{option_map, option_and_then}
 use Rattle.std.specs.List.{range_with_len}
 use Rattle.std.proofs.lemmas.List.{map-append}
-use Rattle.std.proofs.lemmas.List.Elements.{All-contains, Contains-append_left, Contains-append_right}
+use Rattle.std.proofs.lemmas.List.Elements.{Contains-append_left, Contains-append_right}
 use Rattle.lrc_base.specs.declared.grammar.Kind.TheVariants as k
 use Rattle.lrc_base.specs.declared.grammar.Production.{Production}
 use Rattle.lrc_meaning.specs.Tree.{Tree, Trees, node}
@@ -13,16 +13,15 @@ use Rattle.lrc_order.specs.declared.Place.{Place}
 use Rattle.lrc_order.specs.declared.Partition.{Partition}
 use Rattle.lrc_sequence.specs.declared.Action.{Action}
 use Rattle.lrc_sequence.specs.declared.Action.TheVariants as a
-use Rattle.lrc_sequence.specs.declared.Bound.{Bound}
 use Rattle.lrc_sequence.specs.declared.Bound.TheVariants as b
 use Rattle.lrc_sequence.specs.Items.{visits_of, visit_of, is_of, values_of_visit, attrs_of_visit, symbol_at, makes}
 use Rattle.lrc_sequence.specs.Sequences.{segment}
 use Rattle.lrc_sequence.specs.Bindings.{binding as items_between}
 use Rattle.lrc_sequence.specs.Sound.{handed_in, handed_out, IsDone, IsSound}
-use Rattle.lrc_visit_meaning.specs.Values.{Datum, value, binding, Data, no_data, data_then, data_row, data_list, value_in, binding_in, Call, Result}
-use Rattle.lrc_visit_meaning.specs.Visits.{Held, nothing_held, holding, Given, Walked, walk, are_of_kinds, values_at, is_of_kind, tree_at, call_of, given_by, held_at_start, result_of, step, visit_of_node, one_visit}
+use Rattle.lrc_visit_meaning.specs.Values.{Datum, value, binding, Data, data_row, data_list, value_in, binding_in, Call, Result}
+use Rattle.lrc_visit_meaning.specs.Visits.{Held, nothing_held, holding, Walked, walk, are_of_kinds, is_of_kind, tree_at, call_of, given_by, held_at_start, result_of, step, visit_of_node, one_visit}
 use Rattle.lrc_laws.proofs.ListLemmas.{member_map, member_flat, member_of_filter, member_of_range, map_map, map_agree, map_flat, flat_of_map, flat_agree}
-use Rattle.lrc_laws.proofs.HeldLemmas.{Agree, agree_part, holding_agrees, IsMade, AreMade, walk_follows}
+use Rattle.lrc_laws.proofs.HeldLemmas.{Agree, agree_part, holding_agrees, IsMade, walk_follows}
 use Rattle.lrc_laws.proofs.ReadLemmas.{step_reads}
 
 -- What a node shows: the values of its attributes, by number, and its bindings from visit to visit.

@@ -1,24 +1,23 @@
 -- The parts of a decorated node, and the places and occurrences that they stand at.
-use Rattle.std.proofs.Common.{◌≡◌, ℕ, zero, suc, ◌+◌, ◌<◌, ◌≤◌, max, Bool, true, false, not, ◌&&◌, IsTrue, cond, List, [], ◌∷◌, ◌++◌, map, length, get_or, Contains, Option, Some, None, ◌⊎◌, inl, inr, slice_get, refl, sym, ap, ◌∙◌, subst, arith, append_assoc, append-nil, length-append}
+use Rattle.std.proofs.Common.{◌≡◌, ℕ, zero, suc, ◌+◌, ◌<◌, ◌≤◌, max, true, false, not, ◌&&◌, IsTrue, cond, List, [], ◌∷◌, ◌++◌, map, length, get_or, Contains, Option, Some, None, inl, inr, slice_get, refl, sym, ap, ◌∙◌, subst, arith, append_assoc, length-append}
 use Rattle.std.specs.Prelude.{flat_map, slice_index_or}
-use Rattle.std.specs.Option.{option_map, option_map_or, option_and_then}
+use Rattle.std.specs.Option.{option_map, option_map_or}
 use Rattle.std.proofs.lemmas.Bool.{and_parts, and_from, false≢true, not-true, eqb-true}
 use Rattle.std.proofs.lemmas.Option.{none-some, same_Some}
-use Rattle.std.proofs.lemmas.List.{map-append, length-map, get_or_append_left, get_or-append-add}
+use Rattle.std.proofs.lemmas.List.{length-map, get_or_append_left, get_or-append-add}
 use Rattle.lrc_base.specs.declared.grammar.Kind.{Kind}
 use Rattle.lrc_base.specs.declared.grammar.Kind.TheVariants as k
-use Rattle.lrc_base.specs.declared.grammar.Sort.{Sort}
 use Rattle.lrc_base.specs.declared.grammar.Kid.{Kid}
 use Rattle.lrc_base.specs.declared.grammar.Extra.{Extra}
 use Rattle.lrc_base.specs.declared.grammar.Production.{Production}
-use Rattle.lrc_meaning.specs.Tree.{Tree, int, bool, name, node, Trees, none, more, is_sort, same_kind, is_left, kind_of, in_order, fits}
+use Rattle.lrc_meaning.specs.Tree.{Tree, int, bool, name, node, Trees, is_sort, same_kind, is_left, fits}
 use Rattle.lrc_meaning.specs.Grammar.{Grammar, attrs_of_sort, attrs_of, symbol_occurrence, extra_occurrences}
-use Rattle.lrc_meaning.specs.Attribution.{Decorated, at_node, Parts, end, value, symbol, bare, bare_kids, attributes_of, production_of, kid_values, extra_values, occurrence_values, leaf_at, kids_agree, extras_agree, IsRight, AreRight, height, highest}
+use Rattle.lrc_meaning.specs.Attribution.{Decorated, at_node, Parts, end, value, symbol, bare, bare_kids, attributes_of, production_of, kid_values, extra_values, leaf_at, kids_agree, extras_agree, IsRight, AreRight, height, highest}
 use Rattle.lrc_order.specs.declared.Place.{Place}
 use Rattle.lrc_order.specs.Needs.{symbol_of, kid_symbols, extra_symbols}
 use Rattle.lrc_visit_meaning.specs.Values.{no_tree}
 use Rattle.lrc_visit_meaning.specs.Visits.{is_of_kind, are_of_kinds, leaf_in, symbol_trees}
-use Rattle.lrc_laws.proofs.ListLemmas.{member_cases, member_first, member_later, no_member}
+use Rattle.lrc_laws.proofs.ListLemmas.{member_cases, no_member}
 use Rattle.lrc_laws.proofs.FuelLemmas.{max_left, max_right}
 
 -- the decorated trees among parts, in order
@@ -51,6 +50,7 @@ left_kind prods n kind h = over (slice_get prods n) refl kind h
     sort_is s k.Bool h = absurd (false≢true h)
     sort_is s k.Name h = absurd (false≢true h)
     sort_is s (k.Sort r) h = ap k.Sort (eqb-true s r h)
+
     over : (o : Option Production) → slice_get prods n ≡ o → (kind : Kind) → IsTrue (option_map_or (λ (q : Production). same_kind (k.Sort q.left) kind) o false)
         → (q : Production) × (slice_get prods n ≡ Some q) × (k.Sort q.left ≡ kind)
     over None is kind h = absurd (false≢true h)
@@ -306,8 +306,7 @@ module _ (g : Grammar) where
       let leaf = leaf_kid kid.kind start (not-true (is_sort kid.kind) (and_parts (not (is_sort kid.kind)) (fits g.prods v kid.kind) both.0).0) in
       let rests = kid_counts kids rest (start + length (attrs_of g.sorts kid.kind)) both.1 r in
       let values = length-append (map symbol_occurrence (attrs_of g.sorts kid.kind)) (flat_map (λ (kid : Kid). map symbol_occurrence (attrs_of g.sorts kid.kind)) kids) in
-      let own = length-map (attrs_of g.sorts kid.kind) symbol_occurrence in
-      (
+      let own = length-map (attrs_of g.sorts kid.kind) symbol_occurrence in (
         ap (λ ps. length (ps ++ kid_symbols g.sorts (start + length (attrs_of g.sorts kid.kind)) kids)) leaf.0 ∙ rests.0,
         omega (arith, values, own, leaf.1, rests.1),
       )
@@ -318,8 +317,7 @@ module _ (g : Grammar) where
       let rests = kid_counts kids rest (start + length (attrs_of g.sorts kid.kind)) both.1 r.1 in
       let values = length-append (map symbol_occurrence (attrs_of g.sorts kid.kind)) (flat_map (λ (kid : Kid). map symbol_occurrence (attrs_of g.sorts kid.kind)) kids) in
       let own = length-map (attrs_of g.sorts kid.kind) symbol_occurrence in
-      let all = length-append (attributes_of d) (kid_values rest) in
-      (
+      let all = length-append (attributes_of d) (kid_values rest) in (
         ap (λ kd. length (symbol_of kd start None ++ kid_symbols g.sorts (start + length (attrs_of g.sorts kid.kind)) kids)) (sym q.2) ∙ ap suc rests.0,
         omega (arith, values, own, all, count, rests.1),
       )

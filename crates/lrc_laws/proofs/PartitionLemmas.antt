@@ -1,23 +1,21 @@
 -- What the partitions of a grammar say of its visits.
-use Rattle.std.proofs.Common.{◌≡◌, ℕ, zero, suc, ◌+◌, ◌-◌, ◌*◌, ◌/◌, ◌<◌, ◌≤◌, Bool, true, false, not, IsTrue, List, [], ◌∷◌, length, get_or, All, Contains, Option, Some, None, ◌⊎◌, inl, inr, slice_get, refl, sym, ap, ◌∙◌, subst, arith}
+use Rattle.std.proofs.Common.{◌≡◌, ℕ, zero, suc, ◌+◌, ◌*◌, ◌/◌, ◌<◌, ◌≤◌, true, false, not, IsTrue, [], length, get_or, All, Option, Some, None, ◌⊎◌, inl, inr, slice_get, sym, ap, subst, arith}
 use Rattle.std.specs.Prelude.{slice_index}
 use Rattle.std.specs.Option.{option_map_or}
 use Rattle.std.specs.List.{range_with_len, list_all}
 use Rattle.std.proofs.lemmas.Bool.{and_parts, not-true, cases_lt, ltb-true}
-use Rattle.std.proofs.lemmas.Option.{slice_get-get_or, slice_get_within, slice_get_past}
+use Rattle.std.proofs.lemmas.Option.{slice_get-get_or, slice_get_past}
 use Rattle.std.proofs.lemmas.List.FromFn.{length-range_with_len, get_or-range_with_len}
 use Rattle.lrc_base.specs.declared.grammar.Attr.{Attr}
 use Rattle.lrc_base.specs.declared.grammar.Kind.TheVariants as k
-use Rattle.lrc_base.specs.declared.grammar.Given.{Given}
 use Rattle.lrc_base.specs.declared.grammar.Sort.{Sort}
 use Rattle.lrc_meaning.specs.Grammar.{Grammar, attrs_of_sort, is_well_formed}
 use Rattle.lrc_order.specs.declared.Partition.{Partition}
-use Rattle.lrc_order.specs.Induced.{Induced}
-use Rattle.lrc_order.specs.Sets.{HasTurn, CanStand, InGreatest, Placed, InSet, IsVisitOf}
-use Rattle.lrc_order.specs.Ordered.{IsGivenThere, IsPartition, Partitions, ArePartitions}
+use Rattle.lrc_order.specs.Sets.{HasTurn, CanStand, Placed}
+use Rattle.lrc_order.specs.Ordered.{IsGivenThere, Partitions, ArePartitions}
 use Rattle.lrc_order.proofs.TransitiveLemmas.{has_place}
 use Rattle.lrc_sequence.specs.Items.{visit_of, visits_of}
-use Rattle.lrc_laws.proofs.ListLemmas.{member_range, member_of_range}
+use Rattle.lrc_laws.proofs.ListLemmas.{member_range}
 use Rattle.lrc_laws.proofs.FormedLemmas.{list_all-at}
 use Rattle.lrc_laws.proofs.AlikeLemmas.{AreVisited}
 use Rattle.lrc_laws.proofs.BuildLemmas.{AreSome}

@@ -1,30 +1,27 @@
 -- An action reads what it needs, and nothing else.
-use Rattle.std.proofs.Common.{◌≡◌, ℕ, zero, suc, ◌+◌, ◌-◌, ◌<◌, ◌≤◌, Bool, true, false, cond, List, [], ◌∷◌, ◌++◌, map, length, Contains, Option, Some, None, ◌⊎◌, inl, inr, slice_get, refl, sym, ap, ◌∙◌, subst, arith}
+use Rattle.std.proofs.Common.{◌≡◌, ℕ, zero, suc, ◌+◌, ◌-◌, Bool, true, false, cond, List, [], ◌∷◌, ◌++◌, map, length, Contains, Option, Some, None, slice_get, refl, sym, ap, ◌∙◌, subst, arith}
 use Rattle.std.specs.Prelude.{filter, flat_map, find, ◌==◌, slice_index_or}
 use Rattle.std.specs.Option.{option_map, option_map_or, option_and_then}
 use Rattle.std.specs.List.{range_with_len}
-use Rattle.std.proofs.lemmas.Bool.{cases_Bool, eqb-true, eq-eqb}
 use Rattle.std.proofs.lemmas.Option.{none-some, same_Some, slice_get-map}
 use Rattle.std.proofs.lemmas.List.Elements.{Contains-append_left, Contains-append_right}
-use Rattle.lrc_base.specs.declared.expr.Op.{Op}
 use Rattle.lrc_base.specs.declared.grammar.Kind.TheVariants as k
 use Rattle.lrc_base.specs.declared.grammar.Equation.{Equation}
 use Rattle.lrc_base.specs.declared.grammar.Production.{Production}
-use Rattle.lrc_meaning.specs.Tree.{Tree, Trees, none, more, node}
+use Rattle.lrc_meaning.specs.Tree.{Tree, Trees, more, node}
 use Rattle.lrc_meaning.specs.Expression.{Expression, literal, occurrence, leaf, binary, choice, make, Expressions, no_more, and_more, expression, value_of, values_of, operated, chosen, bool_in}
 use Rattle.lrc_meaning.specs.Grammar.{Grammar, occurrences_of}
 use Rattle.lrc_order.specs.declared.Need.{Need}
 use Rattle.lrc_order.specs.declared.Place.{Place}
 use Rattle.lrc_order.specs.declared.Partition.{Partition}
 use Rattle.lrc_order.specs.Needs.{need, reads, reads_of_each, equation_needs}
-use Rattle.lrc_sequence.specs.declared.Action.{Action}
 use Rattle.lrc_sequence.specs.declared.Action.TheVariants as a
 use Rattle.lrc_sequence.specs.declared.Bound.{Bound}
 use Rattle.lrc_sequence.specs.declared.Bound.TheVariants as b
-use Rattle.lrc_sequence.specs.Items.{symbol_at, needs, makes, tree_of, taken, values_of_visit, firsts_of}
-use Rattle.lrc_visit_meaning.specs.Values.{Datum, value, value_in, binding_in, Call, Result, no_tree}
-use Rattle.lrc_visit_meaning.specs.Visits.{Held, Given, values_in, leaf_in, evaluated, equation_of, values_at, tree_at, call_of, given_by, is_of_kind, symbol_trees, step}
-use Rattle.lrc_laws.proofs.ListLemmas.{member_first, member_later, member_map, member_flat, member_filter, member_slice, map_agree}
+use Rattle.lrc_sequence.specs.Items.{symbol_at, needs, tree_of, values_of_visit, firsts_of}
+use Rattle.lrc_visit_meaning.specs.Values.{value, value_in, binding_in, Call, Result, no_tree}
+use Rattle.lrc_visit_meaning.specs.Visits.{Held, values_in, leaf_in, equation_of, values_at, tree_at, call_of, given_by, is_of_kind, symbol_trees, step}
+use Rattle.lrc_laws.proofs.ListLemmas.{member_first, member_later, member_map, member_flat, member_filter, map_agree}
 use Rattle.lrc_laws.proofs.HeldLemmas.{Agree, agree_left, agree_right, ReadsNeeds}
 
 module _ (vs ws : List Tree) (leaves others : ℕ → Option Tree) (same_leaves : (i : ℕ) → leaves i ≡ others i) where

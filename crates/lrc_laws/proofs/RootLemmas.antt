@@ -1,5 +1,5 @@
 -- Attributions of trees of the start sort, and the one visit of their roots.
-use Rattle.std.proofs.Common.{◌≡◌, ℕ, zero, suc, ◌+◌, ◌-◌, ◌<◌, ◌≤◌, max, Bool, true, false, not, ◌&&◌, ◌==◌, IsTrue, cond, List, [], ◌∷◌, map, length, get_or, All, Contains, Option, Some, None, slice_get, refl, sym, ap, ◌∙◌, subst, arith}
+use Rattle.std.proofs.Common.{◌≡◌, ℕ, zero, suc, ◌+◌, ◌-◌, ◌<◌, ◌≤◌, max, Bool, true, false, not, ◌&&◌, ◌==◌, IsTrue, cond, List, [], ◌∷◌, map, length, get_or, Some, slice_get, refl, sym, ap, ◌∙◌, subst, arith}
 use Rattle.std.specs.Prelude.{filter, slice_index_or}
 use Rattle.std.specs.Option.{option_map_or}
 use Rattle.std.specs.List.{range_with_len}
@@ -11,16 +11,16 @@ use Rattle.lrc_base.specs.declared.grammar.Attr.{Attr}
 use Rattle.lrc_base.specs.declared.grammar.Kind.TheVariants as k
 use Rattle.lrc_base.specs.declared.grammar.Production.{Production}
 use Rattle.lrc_meaning.specs.Tree.{Tree, is_left, fits}
-use Rattle.lrc_meaning.specs.Grammar.{Grammar, attrs_of_sort, attrs_of, is_well_formed}
-use Rattle.lrc_meaning.specs.Attribution.{Decorated, bare, attributes_of, production_of, IsRight, IsAttribution, height, synthesised, Attributes}
+use Rattle.lrc_meaning.specs.Grammar.{Grammar, attrs_of_sort}
+use Rattle.lrc_meaning.specs.Attribution.{Decorated, bare, attributes_of, production_of, IsAttribution, height, synthesised, Attributes}
 use Rattle.lrc_order.specs.Ordered.{Partitions}
 use Rattle.lrc_sequence.specs.Items.{is_of, visit_of, visits_of, attrs_of_visit}
 use Rattle.lrc_sequence.specs.Sound.{IsSound}
-use Rattle.lrc_visit_meaning.specs.Values.{Data, no_data, Result, no_tree, root_call}
+use Rattle.lrc_visit_meaning.specs.Values.{no_data, no_tree, root_call}
 use Rattle.lrc_visit_meaning.specs.Visits.{is_of_kind, plain_visit}
 use Rattle.lrc_laws.specs.Laws.{HasSoundPlan, RootGives}
 use Rattle.lrc_laws.proofs.FuelLemmas.{max_left, max_right}
-use Rattle.lrc_laws.proofs.NodeLemmas.{Face, asked, Answers, Serves, ServesOne}
+use Rattle.lrc_laws.proofs.NodeLemmas.{Face, asked, Serves, ServesOne}
 use Rattle.lrc_laws.proofs.PartLemmas.{left_kind, bare_of_kind, fits_of_kind, attributes_count}
 use Rattle.lrc_laws.proofs.DecoratedLemmas.{AreSound, face_of, serves, sort_same}
 use Rattle.lrc_laws.proofs.UniqueLemmas.{unique}

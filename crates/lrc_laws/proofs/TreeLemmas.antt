@@ -1,10 +1,10 @@
 -- A tree that serves its visits with so much fuel has an attribution within that height.
-use Rattle.std.proofs.Common.{◌≡◌, ℕ, zero, suc, ◌+◌, ◌-◌, ◌<◌, ◌≤◌, max, Bool, true, false, not, ◌&&◌, ◌||◌, ◌==◌, IsTrue, cond, List, [], ◌∷◌, ◌++◌, map, length, get_or, Contains, Option, Some, None, ◌⊎◌, inl, inr, slice_get, refl, sym, ap, ◌∙◌, subst, arith, length-append}
+use Rattle.std.proofs.Common.{◌≡◌, ℕ, zero, suc, ◌+◌, ◌<◌, ◌≤◌, Bool, true, false, not, ◌&&◌, ◌||◌, ◌==◌, IsTrue, cond, List, [], ◌∷◌, ◌++◌, map, length, Option, Some, None, slice_get, refl, sym, ap, ◌∙◌, subst, arith, length-append}
 use Rattle.std.specs.Prelude.{flat_map, slice_index_or, nat_lt}
-use Rattle.std.specs.Option.{option_map, option_map_or, option_and_then}
+use Rattle.std.specs.Option.{option_map_or, option_and_then}
 use Rattle.std.specs.List.{range_with_len, list_all, AllByRecursion}
-use Rattle.std.proofs.lemmas.Bool.{cases_Bool, cases_lt, false≢true, and_parts, eq-eqb, ltb-true}
-use Rattle.std.proofs.lemmas.Option.{none-some, same_Some, slice_get-map, slice_get-get_or, slice_get_within, get_or_from_slice_get}
+use Rattle.std.proofs.lemmas.Bool.{false≢true, and_parts, eq-eqb, ltb-true}
+use Rattle.std.proofs.lemmas.Option.{none-some, same_Some, slice_get-get_or, slice_get_within, get_or_from_slice_get}
 use Rattle.std.proofs.lemmas.List.{length-map, get_or_append_left, get_or-append-add}
 use Rattle.std.proofs.lemmas.List.FromFn.{length-map-range_with_len, get_or-map-range_with_len}
 use Rattle.lrc_base.specs.declared.grammar.Kind.{Kind}
@@ -16,8 +16,8 @@ use Rattle.lrc_base.specs.declared.grammar.Sort.{Sort}
 use Rattle.lrc_base.specs.declared.grammar.Production.{Production}
 use Rattle.lrc_meaning.specs.Tree.{Tree, int, bool, name, node, Trees, is_sort, same_kind, is_left}
 use Rattle.lrc_meaning.specs.Expression.{expression, value_of}
-use Rattle.lrc_meaning.specs.Grammar.{Grammar, Occurrence, attrs_of_sort, attrs_of, own_occurrence, symbol_occurrence, extra_occurrences, occurrences_of, is_known, is_well_formed}
-use Rattle.lrc_meaning.specs.Attribution.{Decorated, at_node, Parts, bare, bare_kids, attributes_of, production_of, kid_values, extra_values, occurrence_values, leaf_at, Holds, IsNodeRight, IsRight, height, highest}
+use Rattle.lrc_meaning.specs.Grammar.{Grammar, attrs_of_sort, attrs_of, own_occurrence, symbol_occurrence, extra_occurrences, occurrences_of, is_known, is_well_formed}
+use Rattle.lrc_meaning.specs.Attribution.{Decorated, at_node, bare, attributes_of, production_of, kid_values, extra_values, occurrence_values, leaf_at, Holds, IsNodeRight, IsRight, height}
 use Rattle.lrc_order.specs.declared.Place.{Place}
 use Rattle.lrc_order.specs.declared.Partition.{Partition}
 use Rattle.lrc_order.specs.Needs.{symbol_of, kid_symbols, extra_symbols, symbols_of, left_place, own_end, kids_end, kid_count, extra_count}
@@ -29,8 +29,8 @@ use Rattle.lrc_visit_meaning.specs.Values.{value_in, no_tree}
 use Rattle.lrc_visit_meaning.specs.Visits.{Held, is_of_kind, are_of_kinds, leaf_in, symbol_trees, values_in, equation_of, evaluated, tree_at, one_visit, plain_visit}
 use Rattle.lrc_laws.proofs.ListLemmas.{map_agree, member_of_range}
 use Rattle.lrc_laws.proofs.ReadLemmas.{value_same}
-use Rattle.lrc_laws.proofs.NodeLemmas.{Face, Serves, ServesOne, symbol_face, AllMade}
-use Rattle.lrc_laws.proofs.PartLemmas.{left_kind, node_of_kind, leaf_same, leaf_kid}
+use Rattle.lrc_laws.proofs.NodeLemmas.{Face, Serves, ServesOne, symbol_face}
+use Rattle.lrc_laws.proofs.PartLemmas.{left_kind, node_of_kind, leaf_same}
 use Rattle.lrc_laws.proofs.FormedLemmas.{production_right, one_equation, find_one, target_defined, defined_over}
 use Rattle.lrc_laws.proofs.DecoratedLemmas.{AreSound, sort_same}
 use Rattle.lrc_laws.proofs.AlikeLemmas.{AreVisited}

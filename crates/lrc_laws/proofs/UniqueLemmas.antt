@@ -1,5 +1,5 @@
 -- Two attributions of a tree that inherit the same are equal.
-use Rattle.std.proofs.Common.{◌≡◌, ℕ, zero, suc, ◌+◌, ◌<◌, ◌≤◌, max, Bool, true, false, not, ◌&&◌, IsTrue, List, [], ◌∷◌, ◌++◌, map, length, get_or, Contains, Option, Some, None, ◌⊎◌, inl, inr, slice_get, refl, sym, ap, ◌∙◌, subst, arith}
+use Rattle.std.proofs.Common.{◌≡◌, ℕ, ◌+◌, ◌<◌, ◌≤◌, Bool, true, false, not, ◌&&◌, IsTrue, List, [], ◌∷◌, ◌++◌, length, get_or, Contains, Option, Some, None, inl, inr, slice_get, refl, sym, ap, ◌∙◌, subst, arith}
 use Rattle.std.specs.Prelude.{slice_index_or, cond, ◌==◌}
 use Rattle.std.specs.Option.{option_map_or}
 use Rattle.std.specs.List.{range_with_len}
@@ -12,23 +12,21 @@ use Rattle.lrc_base.specs.declared.grammar.Kid.{Kid}
 use Rattle.lrc_base.specs.declared.grammar.Extra.{Extra}
 use Rattle.lrc_base.specs.declared.grammar.Attr.{Attr}
 use Rattle.lrc_base.specs.declared.grammar.Production.{Production}
-use Rattle.lrc_meaning.specs.Tree.{Tree, Trees, none, more, node, is_sort, same_kind, is_left, fits}
-use Rattle.lrc_meaning.specs.Grammar.{Grammar, Occurrence, attrs_of_sort, attrs_of, occurrences_of, is_well_formed}
-use Rattle.lrc_meaning.specs.Attribution.{Decorated, at_node, Parts, end, value, symbol, bare, bare_kids, attributes_of, production_of, kid_values, extra_values, occurrence_values, kids_agree, extras_agree, IsNode, IsNodeRight, IsRight, AreRight, height, highest}
+use Rattle.lrc_meaning.specs.Tree.{Tree, is_sort, same_kind, is_left, fits}
+use Rattle.lrc_meaning.specs.Grammar.{Grammar, Occurrence, attrs_of_sort, occurrences_of, is_well_formed}
+use Rattle.lrc_meaning.specs.Attribution.{Decorated, at_node, Parts, end, value, symbol, bare, bare_kids, attributes_of, production_of, kid_values, extra_values, occurrence_values, kids_agree, extras_agree, IsNodeRight, IsRight, AreRight, height, highest}
 use Rattle.lrc_order.specs.declared.Partition.{Partition}
-use Rattle.lrc_sequence.specs.declared.Bound.{Bound}
 use Rattle.lrc_sequence.specs.declared.Bound.TheVariants as b
 use Rattle.lrc_sequence.specs.Items.{is_of, visit_of, attrs_of_visit, values_of_visit}
-use Rattle.lrc_sequence.specs.Sound.{IsSound}
 use Rattle.lrc_visit_meaning.specs.Values.{value_in, no_tree}
 use Rattle.lrc_visit_meaning.specs.Values.{value as datum}
 use Rattle.lrc_visit_meaning.specs.Visits.{Held, plain_visit}
 use Rattle.lrc_laws.proofs.ListLemmas.{member_of_map, member_of_filter}
 use Rattle.lrc_laws.proofs.FuelLemmas.{max_left, max_right}
 use Rattle.lrc_laws.proofs.HeldLemmas.{Agree}
-use Rattle.lrc_laws.proofs.NodeLemmas.{AllMade, Serves, within_sort}
-use Rattle.lrc_laws.proofs.PartLemmas.{symbols_in, symbols_right, symbols_low, symbol_sort, attributes_count, kid_counts}
-use Rattle.lrc_laws.proofs.DecoratedLemmas.{held_of, node_held, face_of, node_made, whole_count, serves, AreSound}
+use Rattle.lrc_laws.proofs.NodeLemmas.{AllMade}
+use Rattle.lrc_laws.proofs.PartLemmas.{symbols_right, symbols_low, symbol_sort, attributes_count, kid_counts}
+use Rattle.lrc_laws.proofs.DecoratedLemmas.{node_held, node_made, whole_count, serves, AreSound}
 use Rattle.lrc_laws.proofs.AlikeLemmas.{AreVisited, occurrence_alike}
 
 pub fronts_same : {X : Type 0} (xs ys us vs : List X) → length xs ≡ length ys → xs ++ us ≡ ys ++ vs → (xs ≡ ys) × (us ≡ vs)

@@ -1,5 +1,5 @@
 -- The visits of two declarations, one after another.
-use Rattle.std.proofs.Common.{◌≡◌, ℕ, zero, suc, ◌+◌, ◌-◌, Bool, true, cond, List, [], ◌∷◌, ◌++◌, map, get_or, pos, Option, Some, None, slice_get, codes, false, refl, sym, ap, ◌∙◌}
+use Rattle.std.proofs.Common.{◌≡◌, ℕ, suc, ◌+◌, ◌-◌, true, cond, List, [], ◌∷◌, ◌++◌, map, get_or, pos, Option, Some, None, slice_get, codes, false, refl, ap, ◌∙◌}
 use Rattle.std.specs.Prelude.{flat_map}
 use Rattle.std.specs.Option.{option_map, option_and_then}
 use Rattle.std.specs.List.{range_with_len}
@@ -21,8 +21,8 @@ use Rattle.lrc_sequence.specs.Sequences.{segments_of, segment}
 use Rattle.lrc_sequence.specs.Bindings.{binding as items_between}
 use Rattle.lrc_sequence.specs.Sound.{handed_in}
 use Rattle.lrc_sequence.specs.Examples.{partitions, top, declaration, top_segments, declaration_segments, handed}
-use Rattle.lrc_visit_meaning.specs.Values.{value, Data, no_data, data_row, data_list, Call, Result, root_call}
-use Rattle.lrc_visit_meaning.specs.Visits.{Held, nothing_held, holding, Walked, walk, are_of_kinds, values_at, held_at_start, result_of, step, visit_of_node, visit_of_tree, plain_visit}
+use Rattle.lrc_visit_meaning.specs.Values.{value, no_data, data_row, data_list, Call, Result, root_call}
+use Rattle.lrc_visit_meaning.specs.Visits.{nothing_held, holding, Walked, walk, are_of_kinds, values_at, held_at_start, result_of, step, visit_of_node, visit_of_tree, plain_visit}
 use Rattle.lrc_visit_meaning.specs.Examples.{number_result, no_items, second_item, both_items, first_call, second_call, first_result, declaration_binding}
 
 module _ (g : Grammar) (parts : List Partition) where

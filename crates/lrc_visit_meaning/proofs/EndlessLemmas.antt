@@ -1,5 +1,5 @@
 -- Visits in the endless grammar.
-use Rattle.std.proofs.Common.{◌≡◌, ℕ, zero, suc, [], ◌∷◌, Some, None, refl, sym, ap, ◌∙◌}
+use Rattle.std.proofs.Common.{◌≡◌, ℕ, zero, suc, None, refl}
 use Rattle.lrc_graph.specs.Pairs.{paired}
 use Rattle.lrc_meaning.proofs.ExpressionLemmas.{expression_equations}
 use Rattle.lrc_visit_meaning.specs.Values.{root_call}

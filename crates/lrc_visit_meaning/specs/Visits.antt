@@ -14,7 +14,6 @@ use Rattle.lrc_base.specs.declared.grammar.Production.{Production}
 use Rattle.lrc_meaning.specs.Tree.{Tree, int, bool, name, node, Trees, none, more, is_sort, same_kind, kind_of, in_order}
 use Rattle.lrc_meaning.specs.Expression.{expression, value_of}
 use Rattle.lrc_meaning.specs.Grammar.{Grammar, occurrences_of}
-use Rattle.lrc_order.specs.declared.Place.{Place}
 use Rattle.lrc_order.specs.declared.Partition.{Partition}
 use Rattle.lrc_sequence.specs.declared.Action.{Action}
 use Rattle.lrc_sequence.specs.declared.Action.TheVariants as a
@@ -24,7 +23,7 @@ use Rattle.lrc_sequence.specs.Items.{same_item, visits_of, values_of_visit, symb
 use Rattle.lrc_sequence.specs.Sequences.{segment}
 use Rattle.lrc_sequence.specs.Bindings.{binding as items_between}
 use Rattle.lrc_sequence.specs.Sound.{handed_in}
-use Rattle.lrc_visit_meaning.specs.Values.{Datum, value, binding, Data, no_data, data_row, data_list, no_tree, value_in, binding_in, Call, Result}
+use Rattle.lrc_visit_meaning.specs.Values.{Datum, value, binding, no_data, data_row, data_list, no_tree, value_in, binding_in, Call, Result}
 
 -- What each item of a node holds. What an item holds that is not available yet is of no account.
 abbrev pub Held : Type 0

@@ -1,4 +1,4 @@
-use Rattle.std.proofs.Common.{◌≡◌, refl}
+use Rattle.std.proofs.Common.{refl}
 use Rattle.lrc_graph.specs.Pairs.{paired}
 use Rattle.lrc_meaning.proofs.ExpressionLemmas.{expression_equations}
 use Rattle.lrc_visit_meaning.specs.Visits.{plain_visit}
