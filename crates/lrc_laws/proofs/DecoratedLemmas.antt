@@ -27,21 +27,16 @@ use Rattle.lrc_sequence.specs.Bindings.{binding as items_between}
 use Rattle.lrc_sequence.specs.Sound.{IsSound, IsVisitThere}
 use Rattle.lrc_visit_meaning.specs.Values.{value, binding, Data, no_data, data_row, value_in, no_tree, Call, Result}
 use Rattle.lrc_visit_meaning.specs.Visits.{Held, values_in, leaf_in, symbol_trees, equation_of, evaluated, tree_at, is_of_kind, step, one_visit, plain_visit}
+pub use Rattle.lrc_visit_meaning.specs.Shown.{no_bound, held_of, bound_of, bounds_of, face_of, node_held}
+use Rattle.lrc_visit_meaning.specs.Shown.{no_height, visit_height, heights_of}
 use Rattle.lrc_laws.proofs.ListLemmas.{member_slice, slice_of_member}
 use Rattle.lrc_laws.proofs.FuelLemmas.{max_left, max_right}
 use Rattle.lrc_laws.proofs.HeldLemmas.{IsMade}
 use Rattle.lrc_laws.proofs.ReadLemmas.{found_there, value_same}
 use Rattle.lrc_laws.proofs.NodeLemmas.{Face, IsProper, Serves, own_face, symbol_face, AllMade, AreAlike, serves_alike, visit_made, node_serves}
 use Rattle.lrc_laws.proofs.PartLemmas.{symbols_in, symbols_right, symbols_low, left_kind, bare_of_kind, kids_of_kinds, leaf_same, symbol_trees_are, kid_symbol, extra_symbol, kid_counts, extra_counts}
+use Rattle.lrc_laws.proofs.OccurrenceLemmas.{slice_left, slice_right}
 use Rattle.lrc_laws.proofs.FormedLemmas.{equation_there}
-
-abbrev pub no_bound : ℕ → ℕ → Data
-no_bound u w = no_data
-
--- what is held where these are the values of the occurrences and the bindings of the symbols
-abbrev pub held_of : List Tree → List (ℕ → ℕ → Data) → Held
-held_of vs bs (b.Value o) = value (slice_index_or vs o no_tree)
-held_of vs bs (b.Kid s u w) = binding (slice_index_or bs s no_bound u w)
 
 pub sort_same : (s r : ℕ) → k.Sort s ≡ k.Sort r → s ≡ r
 sort_same s r e = cc
@@ -50,55 +45,49 @@ pub held_proper : (vs : List Tree) (bs : List (ℕ → ℕ → Data)) → IsProp
 held_proper vs bs = record { values = λ o. refl; bindings = λ s u w. refl }
 
 module _ (g : Grammar) (parts : List Partition) where
-  abbrev pub items_of_node : ℕ → ℕ → ℕ → List Bound
-  items_of_node n u w = option_map_or (λ q. items_between g.sorts parts q u w) (slice_get g.prods n) []
-
-  -- the bindings of a decorated node, by its values and the bindings of its symbols
-  abbrev mutual
-    pub bound_of : Decorated → ℕ → ℕ → Data
-    bound_of (at_node n own kids extras) u w =
-        data_row (map (held_of (occurrence_values own kids extras) (bounds_of kids ++ bounds_of extras)) (items_of_node n u w))
-
-    pub bounds_of : Parts → List (ℕ → ℕ → Data)
-    bounds_of end = []
-    bounds_of (m.value v rest) = bounds_of rest
-    bounds_of (symbol d rest) = (λ u w. bound_of d u w) ∷ bounds_of rest
-
-  -- what a decorated tree shows, and what it holds
-  abbrev pub face_of : Decorated → Face
-  face_of d = record { attr = λ x. slice_index_or (attributes_of d) x no_tree; bound = λ u w. bound_of d u w }
-
-  abbrev pub node_held : List Tree → Parts → Parts → Held
-  node_held own kids extras = held_of (occurrence_values own kids extras) (bounds_of kids ++ bounds_of extras)
-
-  bounds_are : (ps : Parts) → bounds_of ps ≡ map (λ d u w. bound_of d u w) (symbols_in ps)
+  bounds_are : (ps : Parts) → bounds_of g parts ps ≡ map (λ d u w. bound_of g parts d u w) (symbols_in ps)
   bounds_are end = refl
   bounds_are (m.value v rest) = bounds_are rest
-  bounds_are (symbol d rest) = ap (λ bs. (λ u w. bound_of d u w) ∷ bs) (bounds_are rest)
+  bounds_are (symbol d rest) = ap (λ bs. (λ u w. bound_of g parts d u w) ∷ bs) (bounds_are rest)
 
-  bounds_at : (ps : Parts) (i : ℕ) (d : Decorated) → slice_get (symbols_in ps) i ≡ Some d → get_or (bounds_of ps) i no_bound ≡ (λ u w. bound_of d u w)
+  bounds_at : (ps : Parts) (i : ℕ) (d : Decorated) → slice_get (symbols_in ps) i ≡ Some d → get_or (bounds_of g parts ps) i no_bound ≡ (λ u w. bound_of g parts d u w)
   bounds_at ps i d e =
-      get_or_from_slice_get (bounds_of ps) i (λ u w. bound_of d u w) no_bound
-      (ap (λ bs. slice_get bs i) (bounds_are ps) ∙ slice_get-map (λ d u w. bound_of d u w) (symbols_in ps) i ∙ ap (option_map (λ d u w. bound_of d u w)) e)
+      get_or_from_slice_get (bounds_of g parts ps) i (λ u w. bound_of g parts d u w) no_bound
+      (ap (λ bs. slice_get bs i) (bounds_are ps) ∙ slice_get-map (λ d u w. bound_of g parts d u w) (symbols_in ps) i ∙ ap (option_map (λ d u w. bound_of g parts d u w)) e)
 
-  bounds_count : (ps : Parts) → length (bounds_of ps) ≡ length (symbols_in ps)
-  bounds_count ps = ap (length {A = ℕ → ℕ → Data}) (bounds_are ps) ∙ length-map (symbols_in ps) (λ d u w. bound_of d u w)
+  heights_are : (ps : Parts) → heights_of g parts ps ≡ map (λ d v. visit_height g parts d v) (symbols_in ps)
+  heights_are end = refl
+  heights_are (m.value v rest) = heights_are rest
+  heights_are (symbol d rest) = ap (λ hs. (λ v. visit_height g parts d v) ∷ hs) (heights_are rest)
+
+  heights_at : (ps : Parts) (i : ℕ) (d : Decorated) → slice_get (symbols_in ps) i ≡ Some d → get_or (heights_of g parts ps) i no_height ≡ (λ v. visit_height g parts d v)
+  heights_at ps i d e =
+      get_or_from_slice_get (heights_of g parts ps) i (λ v. visit_height g parts d v) no_height
+      (ap (λ hs. slice_get hs i) (heights_are ps) ∙ slice_get-map (λ d v. visit_height g parts d v) (symbols_in ps) i ∙ ap (option_map (λ d v. visit_height g parts d v)) e)
+
+  heights_count : (ps : Parts) → length (heights_of g parts ps) ≡ length (symbols_in ps)
+  heights_count ps = ap (length {A = ℕ → ℕ}) (heights_are ps) ∙ length-map (symbols_in ps) (λ d v. visit_height g parts d v)
+
+  bounds_count : (ps : Parts) → length (bounds_of g parts ps) ≡ length (symbols_in ps)
+  bounds_count ps = ap (length {A = ℕ → ℕ → Data}) (bounds_are ps) ∙ length-map (symbols_in ps) (λ d u w. bound_of g parts d u w)
 
   module _ (q : Production) (own : List Tree) (kids extras : Parts) (right : IsNodeRight g q own kids extras) (kids_right : AreRight g kids) (extras_right : AreRight g extras) where
     abbrev whole : List Tree
     whole = occurrence_values own kids extras
 
     abbrev held : Held
-    held = node_held own kids extras
+    held = node_held g parts own kids extras
 
     -- the decorated tree that is symbol s
     pub record IsSymbol (s : ℕ) (d : Decorated) : Type 0 where
+      pub listed : slice_get (symbols_in kids ++ symbols_in extras) s ≡ Some d
+      pub height : slice_index_or (heights_of g parts kids ++ heights_of g parts extras) s no_height ≡ (λ v. visit_height g parts d v)
       pub among : Contains (symbols_in kids) d ⊎ Contains (symbols_in extras) d
       pub of_sort : IsTrue (is_left g.prods (production_of d) (k.Sort (symbol_at g.sorts q s).sort))
       pub tree : tree_at g q (bare_kids kids) held s ≡ bare d
       pub attrs : (x : ℕ) → x < length (attrs_of_sort g.sorts (symbol_at g.sorts q s).sort)
           → slice_index_or whole ((symbol_at g.sorts q s).start + x) no_tree ≡ slice_index_or (attributes_of d) x no_tree
-      pub bound : slice_index_or (bounds_of kids ++ bounds_of extras) s no_bound ≡ (λ u w. bound_of d u w)
+      pub bound : slice_index_or (bounds_of g parts kids ++ bounds_of g parts extras) s no_bound ≡ (λ u w. bound_of g parts d u w)
 
     abbrev kid_places : List Place
     kid_places = kid_symbols g.sorts (own_end g.sorts q) q.kids
@@ -113,9 +102,12 @@ module _ (g : Grammar) (parts : List Partition) where
         let count : own_end g.sorts q ≡ length own = sym right.owns in
         let found = kid_symbol g q.kids kids own (extra_values extras) (own_end g.sorts q) s place count right.has_kids kids_right (slice_get-get_or kid_places s (left_place q) less) in
         let d = found.0.tree in
-        let within : s < length (bounds_of kids) = subst (λ n. s < n) (sym (bounds_count kids)) (slice_get_within (symbols_in kids) s d found.0.is_there) in (
+        let in_kids = slice_get_within (symbols_in kids) s d found.0.is_there in
+        let within : s < length (bounds_of g parts kids) = subst (λ n. s < n) (sym (bounds_count kids)) in_kids in (
           d,
           record {
+            listed = slice_left (symbols_in kids) (symbols_in extras) s in_kids ∙ found.0.is_there;
+            height = get_or_append_left (heights_of g parts kids) (heights_of g parts extras) no_height s (subst (λ n. s < n) (sym (heights_count kids)) in_kids) ∙ heights_at kids s d found.0.is_there;
             among = inl (member_slice (symbols_in kids) s d found.0.is_there);
             of_sort = subst (λ (pl : Place). IsTrue (is_left g.prods (production_of d) (k.Sort pl.sort))) (sym is) found.0.stands.of_sort;
             tree =
@@ -124,7 +116,7 @@ module _ (g : Grammar) (parts : List Partition) where
                 ∙ ap (λ ts. get_or ts s no_tree) (symbol_trees_are g.prods q.kids kids right.has_kids)
                 ∙ get_or_from_slice_get (map bare (symbols_in kids)) s (bare d) no_tree (slice_get-map bare (symbols_in kids) s ∙ ap (option_map bare) found.0.is_there);
             attrs = subst (λ (pl : Place). (x : ℕ) → x < length (attrs_of_sort g.sorts pl.sort) → slice_index_or whole (pl.start + x) no_tree ≡ slice_index_or (attributes_of d) x no_tree) (sym is) found.0.stands.attrs;
-            bound = get_or_append_left (bounds_of kids) (bounds_of extras) no_bound s within ∙ bounds_at kids s d found.0.is_there;
+            bound = get_or_append_left (bounds_of g parts kids) (bounds_of g parts extras) no_bound s within ∙ bounds_at kids s d found.0.is_there;
           },
         )
 
@@ -140,9 +132,16 @@ module _ (g : Grammar) (parts : List Partition) where
         let d = found.symbol_there.tree in
         let same : (own ++ kid_values kids) ++ extra_values extras ≡ whole = append_assoc own (kid_values kids) (extra_values extras) in
         let bounds = bounds_count kids in
-        let shift : s ≡ length (bounds_of kids) + j = omega (arith, at, bounds, counts.0) in (
+        let shift : s ≡ length (bounds_of g parts kids) + j = omega (arith, at, bounds, counts.0) in
+        let in_extras : s ≡ length (symbols_in kids) + j = omega (arith, at, counts.0) in
+        let high = heights_count kids in
+        let further : s ≡ length (heights_of g parts kids) + j = omega (arith, at, high, counts.0) in (
           d,
           record {
+            listed = slice_right (symbols_in kids) (symbols_in extras) s j in_extras ∙ found.symbol_there.is_there;
+            height =
+                ap (λ i. get_or (heights_of g parts kids ++ heights_of g parts extras) i no_height) further
+                ∙ get_or-append-add (heights_of g parts kids) (heights_of g parts extras) j no_height ∙ heights_at extras j d found.symbol_there.is_there;
             among = inr (member_slice (symbols_in extras) j d found.symbol_there.is_there);
             of_sort = subst (λ (pl : Place). IsTrue (is_left g.prods (production_of d) (k.Sort pl.sort))) (sym is) found.symbol_there.stands.of_sort;
             tree =
@@ -152,7 +151,7 @@ module _ (g : Grammar) (parts : List Partition) where
                 ∙ found.value_is;
             attrs = subst (λ (pl : Place). (x : ℕ) → x < length (attrs_of_sort g.sorts pl.sort) → slice_index_or whole (pl.start + x) no_tree ≡ slice_index_or (attributes_of d) x no_tree) (sym is)
                 (subst (λ vs. (x : ℕ) → x < length (attrs_of_sort g.sorts place.sort) → slice_index_or vs (place.start + x) no_tree ≡ slice_index_or (attributes_of d) x no_tree) same found.symbol_there.stands.attrs);
-            bound = ap (λ i. get_or (bounds_of kids ++ bounds_of extras) i no_bound) shift ∙ get_or-append-add (bounds_of kids) (bounds_of extras) j no_bound ∙ bounds_at extras j d found.symbol_there.is_there;
+            bound = ap (λ i. get_or (bounds_of g parts kids ++ bounds_of g parts extras) i no_bound) shift ∙ get_or-append-add (bounds_of g parts kids) (bounds_of g parts extras) j no_bound ∙ bounds_at extras j d found.symbol_there.is_there;
           },
         )
 
@@ -202,7 +201,7 @@ module _ (g : Grammar) (parts : List Partition) where
         ∙ ap Some (sym (ap (λ t. slice_index_or whole t no_tree) (sym target) ∙ get_or_from_slice_get whole e.target holds.given no_tree holds.of_target))
 
     module _ (visit : Call → Option Result) (n : ℕ) (there : slice_get g.prods n ≡ Some q) (formed : IsTrue (is_well_formed g)) (sound : IsSound g.sorts parts q)
-        (served : (d : Decorated) (s : ℕ) → Contains (symbols_in kids) d ⊎ Contains (symbols_in extras) d → IsTrue (is_left g.prods (production_of d) (k.Sort s)) → Serves g parts visit (face_of d) s (bare d)) where
+        (served : (d : Decorated) (s : ℕ) → Contains (symbols_in kids) d ⊎ Contains (symbols_in extras) d → IsTrue (is_left g.prods (production_of d) (k.Sort s)) → Serves g parts visit (face_of g parts d) s (bare d)) where
       visited : (s v : ℕ) → IsVisitThere g.sorts parts q s v → IsMade g.sorts parts q (step g parts visit q (bare_kids kids)) held (a.Visit s v)
       visited s v at =
           let found = symbol_is s at.symbol in
@@ -210,13 +209,13 @@ module _ (g : Grammar) (parts : List Partition) where
           let place = symbol_at g.sorts q s in
           let kind : IsTrue (is_of_kind g.prods (tree_at g q (bare_kids kids) held s) (k.Sort place.sort)) =
           ap (λ t. is_of_kind g.prods t (k.Sort place.sort)) found.1.tree ∙ bare_of_kind g.prods d (k.Sort place.sort) ∙ found.1.of_sort in
-          let alike : AreAlike (length (attrs_of_sort g.sorts place.sort)) (face_of d) (symbol_face g parts q held s) = record {
+          let alike : AreAlike (length (attrs_of_sort g.sorts place.sort)) (face_of g parts d) (symbol_face g parts q held s) = record {
             attr = λ x less. sym (found.1.attrs x less);
             bound = λ u w. ap (λ f. f u w) (sym found.1.bound);
           } in
-          let serves = serves_alike g parts place.sort (face_of d) (symbol_face g parts q held s) alike visit (bare d) (served d place.sort found.1.among found.1.of_sort) in
+          let serves = serves_alike g parts place.sort (face_of g parts d) (symbol_face g parts q held s) alike visit (bare d) (served d place.sort found.1.among found.1.of_sort) in
           let serves_tree = subst (λ t. Serves g parts visit (symbol_face g parts q held s) place.sort t) (sym found.1.tree) serves in
-          visit_made g parts visit q (bare_kids kids) held s v (held_proper whole (bounds_of kids ++ bounds_of extras)) kind (serves_tree v at.first at.last)
+          visit_made g parts visit q (bare_kids kids) held s v (held_proper whole (bounds_of g parts kids ++ bounds_of g parts extras)) kind (serves_tree v at.first at.last)
 
       -- All is made on a node that is right where its symbols serve their visits.
       pub node_made : AllMade g parts visit q (bare_kids kids) held
@@ -229,7 +228,7 @@ module _ (g : Grammar) (parts : List Partition) where
           }
       node_made (a.Visit s v) done = visited s v ((sound.visits s v).1 done)
 
-      own_alike : AreAlike (length (attrs_of_sort g.sorts q.left)) (own_face g parts q held) (face_of (at_node n own kids extras))
+      own_alike : AreAlike (length (attrs_of_sort g.sorts q.left)) (own_face g parts q held) (face_of g parts (at_node n own kids extras))
       own_alike = record {
         attr = λ x less.
             let l : x < length own = subst (λ w. x < w) (sym right.owns) less in
@@ -239,10 +238,10 @@ module _ (g : Grammar) (parts : List Partition) where
       }
 
       -- and it serves its own
-      pub right_serves : Serves g parts (one_visit g parts visit) (face_of (at_node n own kids extras)) q.left (bare (at_node n own kids extras))
+      pub right_serves : Serves g parts (one_visit g parts visit) (face_of g parts (at_node n own kids extras)) q.left (bare (at_node n own kids extras))
       right_serves =
-          serves_alike g parts q.left (own_face g parts q held) (face_of (at_node n own kids extras)) own_alike (one_visit g parts visit) (node n (bare_kids kids))
-          (node_serves g parts visit q (bare_kids kids) held (held_proper whole (bounds_of kids ++ bounds_of extras)) n there sound (kids_of_kinds g.prods q.kids kids right.has_kids) node_made)
+          serves_alike g parts q.left (own_face g parts q held) (face_of g parts (at_node n own kids extras)) own_alike (one_visit g parts visit) (node n (bare_kids kids))
+          (node_serves g parts visit q (bare_kids kids) held (held_proper whole (bounds_of g parts kids ++ bounds_of g parts extras)) n there sound (kids_of_kinds g.prods q.kids kids right.has_kids) node_made)
 
   -- each production's plan is sound
   abbrev pub AreSound : Type 0
@@ -250,7 +249,7 @@ module _ (g : Grammar) (parts : List Partition) where
 
   module _ (formed : IsTrue (is_well_formed g)) (sound : AreSound) where
     -- An attribution serves the visits of its tree, with fuel for its height.
-    pub serves : (fuel : ℕ) (d : Decorated) (s : ℕ) → IsRight g d → height d ≤ fuel → IsTrue (is_left g.prods (production_of d) (k.Sort s)) → Serves g parts (plain_visit g parts fuel) (face_of d) s (bare d)
+    pub serves : (fuel : ℕ) (d : Decorated) (s : ℕ) → IsRight g d → height d ≤ fuel → IsTrue (is_left g.prods (production_of d) (k.Sort s)) → Serves g parts (plain_visit g parts fuel) (face_of g parts d) s (bare d)
     unfolding plain_visit
     serves zero (at_node n own kids extras) s r low h = absurd (omega arith)
     serves (suc fuel) (at_node n own kids extras) s r low h =
@@ -260,11 +259,11 @@ module _ (g : Grammar) (parts : List Partition) where
         let is_left_sort : q.left ≡ s = sort_same q.left s (ap (λ (x : Production). k.Sort x.left) same ∙ found.2) in
         let kids_low = max_left (highest kids) (highest extras) in
         let extras_low = max_right (highest kids) (highest extras) in
-        let served : (d : Decorated) (s : ℕ) → Contains (symbols_in kids) d ⊎ Contains (symbols_in extras) d → IsTrue (is_left g.prods (production_of d) (k.Sort s)) → Serves g parts (plain_visit g parts fuel) (face_of d) s (bare d) =
+        let served : (d : Decorated) (s : ℕ) → Contains (symbols_in kids) d ⊎ Contains (symbols_in extras) d → IsTrue (is_left g.prods (production_of d) (k.Sort s)) → Serves g parts (plain_visit g parts fuel) (face_of g parts d) s (bare d) =
         λ d s among h.
         elim among [
           | inl c ↦ let l = symbols_low kids d c in serves fuel d s (symbols_right g kids r.1 d c) (omega (arith, l, kids_low, low)) h
           | inr c ↦ let l = symbols_low extras d c in serves fuel d s (symbols_right g extras r.2 d c) (omega (arith, l, extras_low, low)) h
         ] in
-        subst (λ t. Serves g parts (one_visit g parts (plain_visit g parts fuel)) (face_of (at_node n own kids extras)) t (node n (bare_kids kids))) is_left_sort
+        subst (λ t. Serves g parts (one_visit g parts (plain_visit g parts fuel)) (face_of g parts (at_node n own kids extras)) t (node n (bare_kids kids))) is_left_sort
         (right_serves q own kids extras r.0.is_right r.1 r.2 (plain_visit g parts fuel) n r.0.is_there formed (sound n q r.0.is_there) served)

@@ -13,6 +13,7 @@ use Rattle.lrc_sequence.specs.declared.Bound.{Bound}
 use Rattle.lrc_sequence.specs.Items.{symbol_at, makes}
 use Rattle.lrc_sequence.specs.Sequences.{segment}
 use Rattle.lrc_visit_meaning.specs.Values.{Call, Result}
+pub use Rattle.lrc_visit_meaning.specs.Visits.{walked_on}
 use Rattle.lrc_visit_meaning.specs.Visits.{Held, Given, Walked, holding, walk, is_of_kind, are_of_kinds, tree_at, call_of, given_by, held_at_start, result_of, evaluated, step, visit_of_node, visit_of_tree, plain_visit}
 
 -- what an option is made of, where it is there
@@ -33,10 +34,6 @@ max_left m n = omega arith
 
 pub max_right : (m n : ℕ) → n ≤ max m n
 max_right m n = omega arith
-
--- what is held behind an action
-abbrev pub walked_on : (Action → List Bound) → Action → Walked → Given → Walked
-walked_on makes_of x w r = record { height = max w.height r.height; held = holding (makes_of x) r.made w.held }
 
 module _ (makes_of : Action → List Bound) (one other : Held → Action → Option Given) where
   pub walk_rises : (xs : List Action) (w v : Walked) → walk makes_of one xs w ≡ Some v → w.height ≤ v.height

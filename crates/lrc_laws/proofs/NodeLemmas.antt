@@ -20,14 +20,10 @@ use Rattle.lrc_sequence.specs.Bindings.{binding as items_between}
 use Rattle.lrc_sequence.specs.Sound.{handed_in, handed_out, IsDone, IsSound}
 use Rattle.lrc_visit_meaning.specs.Values.{Datum, value, binding, Data, data_row, data_list, value_in, binding_in, Call, Result}
 use Rattle.lrc_visit_meaning.specs.Visits.{Held, nothing_held, holding, Walked, walk, are_of_kinds, is_of_kind, tree_at, call_of, given_by, held_at_start, result_of, step, visit_of_node, one_visit}
+pub use Rattle.lrc_visit_meaning.specs.Shown.{Face, asked}
 use Rattle.lrc_laws.proofs.ListLemmas.{member_map, member_flat, member_of_filter, member_of_range, map_map, map_agree, map_flat, flat_of_map, flat_agree}
 use Rattle.lrc_laws.proofs.HeldLemmas.{Agree, agree_part, holding_agrees, IsMade, walk_follows}
 use Rattle.lrc_laws.proofs.ReadLemmas.{step_reads}
-
--- What a node shows: the values of its attributes, by number, and its bindings from visit to visit.
-pub record Face : Type 0 where
-  pub attr : ℕ → Tree
-  pub bound : ℕ → ℕ → Data
 
 -- each value item holds a value, and each other one a binding
 pub record IsProper (m : Held) : Type 0 where
@@ -39,16 +35,7 @@ list_of_row [] = refl
 list_of_row (d ∷ ds) = ap (λ xs. d ∷ xs) (list_of_row ds)
 
 module _ (g : Grammar) (parts : List Partition) where
-  -- visit v of a tree of sort s, as the node above it makes it
-  abbrev pub asked : Face → ℕ → Tree → ℕ → Call
-  asked f s t v = record {
-    tree = t;
-    visit = v;
-    inherited = map f.attr (attrs_of_visit g.sorts parts true s v);
-    bindings = map (λ u. f.bound u v) (range_with_len 1 (v - 1));
-  }
-
-  -- and what it answers
+  -- what a visit answers
   pub record Answers (f : Face) (s v : ℕ) (r : Result) : Type 0 where
     pub synthesised : r.synthesised ≡ map f.attr (attrs_of_visit g.sorts parts false s v)
     pub bindings : r.bindings ≡ map (λ w. f.bound v w) (range_with_len (v + 1) (visits_of parts s - v))
@@ -56,7 +43,7 @@ module _ (g : Grammar) (parts : List Partition) where
   -- one visit gives what the face shows
   pub record ServesOne (visit : Call → Option Result) (f : Face) (s : ℕ) (t : Tree) (v : ℕ) : Type 0 where
     pub result : Result
-    pub is_result : visit (asked f s t v) ≡ Some result
+    pub is_result : visit (asked g parts f s t v) ≡ Some result
     pub answers : Answers f s v result
 
   -- each visit does
@@ -98,7 +85,7 @@ module _ (g : Grammar) (parts : List Partition) where
 
     module _ (n v : ℕ) where
       abbrev call : Call
-      call = asked (own_face p m) p.left (node n kids) v
+      call = asked g parts (own_face p m) p.left (node n kids) v
 
       -- at the start the call's items hold what they hold on m
       given_held : map value call.inherited ++ flat_map data_list call.bindings ≡ map m (handed_in g.sorts parts p v)
@@ -138,7 +125,7 @@ module _ (g : Grammar) (parts : List Partition) where
     pub node_serves : (n : ℕ) → slice_get g.prods n ≡ Some p → IsSound g.sorts parts p → IsTrue (are_of_kinds g.prods kids p.kids) → AllMade visit p kids m
         → Serves (one_visit g parts visit) (own_face p m) p.left (node n kids)
     node_serves n there sound kinds made v first last =
-        let c = asked (own_face p m) p.left (node n kids) v in
+        let c = asked g parts (own_face p m) p.left (node n kids) v in
         let start : Walked = record { height = 0; held = held_at_start g parts p c } in
         let seg = segment g.sorts parts p v in
         let walks = walk_follows g.sorts parts p (step g parts visit p kids) (step_reads g parts visit p kids) seg start (handed_in g.sorts parts p v) m

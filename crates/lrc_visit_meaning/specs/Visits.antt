@@ -69,12 +69,14 @@ pub record Walked : Type 0 where
   pub height : ℕ
   pub held : Held
 
+-- what is held behind an action
+abbrev pub walked_on : (Action → List Bound) → Action → Walked → Given → Walked
+walked_on makes_of x w r = record { height = max w.height r.height; held = holding (makes_of x) r.made w.held }
+
 -- The actions of a segment one after another, each by what the actions before it made.
 abbrev pub walk : (Action → List Bound) → (Held → Action → Option Given) → List Action → Walked → Option Walked
 walk makes_of step [] w = Some w
-walk makes_of step (x ∷ xs) w =
-    option_and_then (λ (r : Given). walk makes_of step xs (record { height = max w.height r.height; held = holding (makes_of x) r.made w.held }))
-    (step w.held x)
+walk makes_of step (x ∷ xs) w = option_and_then (λ (r : Given). walk makes_of step xs (walked_on makes_of x w r)) (step w.held x)
 
 -- the equation that defines the occurrence
 abbrev pub equation_of : Production → ℕ → Option Equation
