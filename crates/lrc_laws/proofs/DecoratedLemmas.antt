@@ -228,7 +228,7 @@ module _ (g : Grammar) (parts : List Partition) where
           }
       node_made (a.Visit s v) done = visited s v ((sound.visits s v).1 done)
 
-      own_alike : AreAlike (length (attrs_of_sort g.sorts q.left)) (own_face g parts q held) (face_of g parts (at_node n own kids extras))
+      pub own_alike : AreAlike (length (attrs_of_sort g.sorts q.left)) (own_face g parts q held) (face_of g parts (at_node n own kids extras))
       own_alike = record {
         attr = λ x less.
             let l : x < length own = subst (λ w. x < w) (sym right.owns) less in

@@ -16,3 +16,5 @@ pub mod TreeLemmas
 pub mod PartitionLemmas
 pub mod RootLemmas
 pub mod EndlessLemmas
+pub mod MetLemmas
+pub mod DemandLemmas

@@ -84,7 +84,7 @@ module _ (g : Grammar) (parts : List Partition) where
         ∙ sym (map_flat m (λ u. items_between g.sorts parts p u v) us)
 
     module _ (n v : ℕ) where
-      abbrev call : Call
+      abbrev pub call : Call
       call = asked g parts (own_face p m) p.left (node n kids) v
 
       -- at the start the call's items hold what they hold on m
@@ -94,7 +94,7 @@ module _ (g : Grammar) (parts : List Partition) where
           ∙ ap (λ ds. map m (values_of_visit g.sorts parts true p.left 0 v) ++ ds) (bindings_held v (range_with_len 1 (v - 1)))
           ∙ sym (map-append m (values_of_visit g.sorts parts true p.left 0 v) (flat_map (λ u. items_between g.sorts parts p u v) (range_with_len 1 (v - 1))))
 
-      start_agrees : Agree (handed_in g.sorts parts p v) (held_at_start g parts p call) m
+      pub start_agrees : Agree (handed_in g.sorts parts p v) (held_at_start g parts p call) m
       start_agrees x c =
           subst (λ ds. holding (handed_in g.sorts parts p v) ds nothing_held x ≡ m x) (sym given_held)
           (holding_agrees (handed_in g.sorts parts p v) nothing_held m x (inr c))
@@ -158,7 +158,7 @@ module _ (g : Grammar) (parts : List Partition) (s : ℕ) where
     same_attrs inherited v =
         map_agree e.attr f.attr (attrs_of_visit g.sorts parts inherited s v) (λ x c. alike.attr x (within_sort inherited v x c))
 
-    same_asked : (t : Tree) (v : ℕ) → asked g parts e s t v ≡ asked g parts f s t v
+    pub same_asked : (t : Tree) (v : ℕ) → asked g parts e s t v ≡ asked g parts f s t v
     same_asked t v =
         ap (λ vs. record { tree = t; visit = v; inherited = vs; bindings = map (λ u. e.bound u v) (range_with_len 1 (v - 1)) }) (same_attrs true v)
         ∙ ap (λ bs. record { tree = t; visit = v; inherited = map f.attr (attrs_of_visit g.sorts parts true s v); bindings = bs })

@@ -111,7 +111,7 @@ module _ (g : Grammar) (parts : List Partition) (visit : Call → Option Result)
     tree_over (Some x) d agrees = ap value_in (agrees (b.Value x) (member_first (b.Value x) []))
 
     module _ (s v : ℕ) (agrees : Agree (needs g.sorts parts p (a.Visit s v)) m n) where
-      abbrev place : Place
+      abbrev pub place : Place
       place = symbol_at g.sorts p s
 
       abbrev values : List Bound
@@ -120,7 +120,7 @@ module _ (g : Grammar) (parts : List Partition) (visit : Call → Option Result)
       abbrev bounds : List Bound
       bounds = map (λ u. b.Kid s u v) (range_with_len 1 (v - 1))
 
-      same_tree_at : tree_at g p kids m s ≡ tree_at g p kids n s
+      pub same_tree_at : tree_at g p kids m s ≡ tree_at g p kids n s
       same_tree_at = tree_over place.tree (slice_index_or (symbol_trees p.kids kids) s no_tree) (agree_left (tree_of place) (values ++ bounds) m n agrees)
 
       same_values : values_at m values ≡ values_at n values
