@@ -52,7 +52,7 @@ greatest_visit hs (a.Visit s v ∷ xs) = ap (max (slice_index_or hs s no_height 
 
 module _ (g : Grammar) (parts : List Partition) (formed : IsTrue (is_well_formed g)) (sound : AreSound g parts) where
   -- what is known of the visits of decorated trees below this height
-  abbrev Exact : ℕ → Type 0
+  abbrev pub Exact : ℕ → Type 0
   Exact fuel = (d : Decorated) (s : ℕ) → IsRight g d → height d ≤ fuel → IsTrue (is_left g.prods (production_of d) (k.Sort s)) → (v : ℕ) → 1 ≤ v → v ≤ visits_of parts s
       → plain_visit g parts fuel (asked g parts (face_of g parts d) s (bare d) v) ≡ Some (answer g parts (face_of g parts d) s v (visit_height g parts d v))
 
@@ -76,7 +76,7 @@ module _ (g : Grammar) (parts : List Partition) (formed : IsTrue (is_well_formed
     abbrev plan : IsSound g.sorts parts q
     plan = sound n q there
 
-    among_right : (d : Decorated) → Contains (symbols_in kids) d ⊎ Contains (symbols_in extras) d → IsRight g d × (height d ≤ fuel)
+    pub among_right : (d : Decorated) → Contains (symbols_in kids) d ⊎ Contains (symbols_in extras) d → IsRight g d × (height d ≤ fuel)
     among_right d (inl c) = let l = symbols_low kids d c in (symbols_right g kids kids_right d c, omega (arith, l, kids_low))
     among_right d (inr c) = let l = symbols_low extras d c in (symbols_right g extras extras_right d c, omega (arith, l, extras_low))
 
@@ -90,7 +90,7 @@ module _ (g : Grammar) (parts : List Partition) (formed : IsTrue (is_well_formed
     Symbol s d = IsSymbol g parts q own kids extras right kids_right extras_right s d
 
     -- the call of a symbol's visit is that of its decorated tree
-    call_is : (s v : ℕ) (d : Decorated) → Symbol s d → call_of g parts q (bare_kids kids) held s v ≡ asked g parts (face_of g parts d) (symbol_at g.sorts q s).sort (bare d) v
+    pub call_is : (s v : ℕ) (d : Decorated) → Symbol s d → call_of g parts q (bare_kids kids) held s v ≡ asked g parts (face_of g parts d) (symbol_at g.sorts q s).sort (bare d) v
     call_is s v d is =
         let place = symbol_at g.sorts q s in
         let alike : AreAlike (length (attrs_of_sort g.sorts place.sort)) (symbol_face g parts q held s) (face_of g parts d) = record {

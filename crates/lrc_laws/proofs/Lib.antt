@@ -18,3 +18,4 @@ pub mod RootLemmas
 pub mod EndlessLemmas
 pub mod MetLemmas
 pub mod DemandLemmas
+pub mod ReachLemmas
