@@ -1,10 +1,10 @@
 -- Attributions of trees of the start sort, and the one visit of their roots.
-use Rattle.std.proofs.Common.{◌≡◌, ℕ, zero, suc, ◌+◌, ◌-◌, ◌<◌, ◌≤◌, max, Bool, true, false, not, ◌&&◌, ◌==◌, IsTrue, cond, List, [], ◌∷◌, map, length, get_or, Some, slice_get, refl, sym, ap, ◌∙◌, subst, arith}
+use Rattle.std.proofs.Common.{◌≡◌, ℕ, zero, suc, ◌+◌, ◌-◌, ◌<◌, ◌≤◌, max, Bool, true, false, not, ◌&&◌, ◌==◌, IsTrue, cond, List, [], ◌∷◌, map, length, get_or, Contains, Some, None, inl, inr, ◌↔◌, slice_get, refl, sym, ap, ◌∙◌, subst, arith}
 use Rattle.std.specs.Prelude.{filter, slice_index_or}
 use Rattle.std.specs.Option.{option_map_or}
 use Rattle.std.specs.List.{range_with_len}
-use Rattle.std.proofs.lemmas.Bool.{true≢false, and_from, eq-eqb}
-use Rattle.std.proofs.lemmas.Option.{same_Some, slice_get-get_or, get_or_from_slice_get, slice_get_within}
+use Rattle.std.proofs.lemmas.Bool.{cases_lt, true≢false, and_from, eq-eqb}
+use Rattle.std.proofs.lemmas.Option.{none-some, same_Some, slice_get-get_or, get_or_from_slice_get, slice_get_within}
 use Rattle.std.proofs.lemmas.List.{nil_from_length}
 use Rattle.std.proofs.lemmas.List.FromFn.{fill_by_all, length-range_with_len}
 use Rattle.lrc_base.specs.declared.grammar.Attr.{Attr}
@@ -16,10 +16,12 @@ use Rattle.lrc_meaning.specs.Attribution.{Decorated, bare, attributes_of, produc
 use Rattle.lrc_order.specs.Ordered.{Partitions}
 use Rattle.lrc_sequence.specs.Items.{is_of, visit_of, visits_of, attrs_of_visit}
 use Rattle.lrc_sequence.specs.Sound.{IsSound}
-use Rattle.lrc_visit_meaning.specs.Values.{no_data, no_tree, root_call}
+use Rattle.lrc_visit_meaning.specs.Values.{Result, no_data, no_tree, root_call}
 use Rattle.lrc_visit_meaning.specs.Visits.{is_of_kind, plain_visit}
 use Rattle.lrc_laws.specs.Laws.{HasSoundPlan, RootGives}
-use Rattle.lrc_laws.proofs.FuelLemmas.{max_left, max_right}
+use Rattle.lrc_visit_meaning.specs.Demand.{Met, demand, reach}
+use Rattle.lrc_laws.proofs.ReachLemmas.{demand_reach}
+use Rattle.lrc_laws.proofs.FuelLemmas.{visit_same, none_below, max_left, max_right}
 use Rattle.lrc_laws.proofs.NodeLemmas.{Face, asked, Serves, ServesOne}
 use Rattle.lrc_laws.proofs.PartLemmas.{left_kind, bare_of_kind, fits_of_kind, attributes_count}
 use Rattle.lrc_laws.proofs.DecoratedLemmas.{AreSound, face_of, serves, sort_same}
@@ -164,3 +166,37 @@ module _ (g : Grammar) (found : Partitions) (plan : HasSoundPlan g found) where
             sym gives.values ∙ sym values
             ∙ sym (synthesised_all start_attrs (attributes_of tree.decorated) (ap (length {A = Tree}) values ∙ count) (start_plain g found plan.partitions plan.formed plan.given));
       }
+
+  -- the root's visit is as high as the attribution
+  pub root_height : (fuel : ℕ) (t : Tree) (d : Decorated) (r : Result) → IsTrue (fits g.prods t (k.Sort g.start)) → IsAttribution g t d → plain_visit g found.sorts fuel (root_call t) ≡ Some r
+      → r.height ≡ height d
+  root_height fuel t d r h a e =
+      let at_height = visit_same g found.sorts fuel r.height (root_call t) r e (omega arith) in
+      let other = given_attributes r.height t r.synthesised h (record { result = r; is_result = at_height; values = refl }) in
+      let same = attributions_unique t other.attribution d h other.is_attribution a in
+      let within = other.within in
+      let low : height d ≤ r.height = subst (λ x. height x ≤ r.height) same within in
+      elim (cases_lt (height d) r.height) [
+        | inl below ↦
+            let given = attributes_given (height d) t (synthesised start_attrs (attributes_of d)) h (record { attribution = d; is_attribution = a; within = omega arith; values = refl }) in
+            absurd (none-some given.result (sym (none_below g found.sorts fuel (height d) (root_call t) r e below) ∙ given.is_result))
+        | inr above ↦ omega (arith, low, above)
+      ]
+
+  -- demand is the reach of the root's visit
+  pub demand_is_reach : (fuel : ℕ) (t : Tree) (d : Decorated) (x : Met) → IsTrue (fits g.prods t (k.Sort g.start)) → IsAttribution g t d → height d ≤ fuel
+      → Contains (demand g found.sorts d) x ↔ Contains (reach g found.sorts fuel (root_call t)) x
+  demand_is_reach fuel t d x h a low =
+      let left = of_start t d a.is_bare h in
+      let both = demand_reach g found.sorts plan.formed sound fuel d g.start a.is_right low left x in
+      let call : asked g found.sorts (face_of g found.sorts d) g.start (bare d) 1 ≡ root_call t = root_asked (face_of g found.sorts d) (bare d) ∙ ap root_call a.is_bare in
+      let single = one in
+      (
+        λ c.
+            let r = both.there c in
+            let low_visit = r.first in
+            let high_visit = r.last in
+            let at : r.visit ≡ 1 = omega (arith, low_visit, high_visit, single) in
+            subst (λ y. Contains (reach g found.sorts fuel y) x) (ap (λ v. asked g found.sorts (face_of g found.sorts d) g.start (bare d) v) at ∙ call) r.member,
+        λ c. both.back (record { visit = 1; first = omega arith; last = omega (arith, single); member = subst (λ y. Contains (reach g found.sorts fuel y) x) (sym call) c }),
+      )

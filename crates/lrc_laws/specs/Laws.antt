@@ -1,14 +1,15 @@
 -- Laws of attributions and plain visits.
-use Rattle.std.specs.Prelude.{◌≡◌, ℕ, ◌≤◌, ◌<◌, IsTrue, List, Some, None, All, ◌↔◌}
+use Rattle.std.specs.Prelude.{◌≡◌, ℕ, ◌≤◌, ◌<◌, IsTrue, List, Some, None, All, Contains, ◌↔◌}
 use Rattle.lrc_base.specs.declared.grammar.Kind.TheVariants as k
 use Rattle.lrc_meaning.specs.Tree.{Tree, fits}
 use Rattle.lrc_meaning.specs.Grammar.{Grammar, is_well_formed}
-use Rattle.lrc_meaning.specs.Attribution.{Decorated, IsAttribution, Attributes}
+use Rattle.lrc_meaning.specs.Attribution.{Decorated, IsAttribution, height, Attributes}
 use Rattle.lrc_order.specs.declared.Partition.{Partition}
 use Rattle.lrc_order.specs.Ordered.{IsGivenThere, Partitions, ArePartitions}
 use Rattle.lrc_sequence.specs.Sound.{IsSound}
 use Rattle.lrc_visit_meaning.specs.Values.{Call, Result, root_call}
 use Rattle.lrc_visit_meaning.specs.Visits.{plain_visit}
+use Rattle.lrc_visit_meaning.specs.Demand.{Met, demand, reach}
 
 -- a visit is no higher than its fuel, and from its height on each fuel gives the same result
 abbrev pub MoreFuelGivesTheSame : Type 0
@@ -42,3 +43,13 @@ pub record RootGives (g : Grammar) (found : Partitions) (fuel : ℕ) (t : Tree) 
 abbrev pub VisitsGiveAttributes : Type 0
 VisitsGiveAttributes = (g : Grammar) (found : Partitions) → HasSoundPlan g found → (limit : ℕ) (t : Tree) (vs : List Tree) → IsTrue (fits g.prods t (k.Sort g.start))
     → Attributes g limit t vs ↔ RootGives g found limit t vs
+
+-- where the root's visit has a result it is as high as the tree's attribution
+abbrev pub VisitsAreAsHigh : Type 0
+VisitsAreAsHigh = (g : Grammar) (found : Partitions) → HasSoundPlan g found → (fuel : ℕ) (t : Tree) (d : Decorated) (r : Result) → IsTrue (fits g.prods t (k.Sort g.start))
+    → IsAttribution g t d → plain_visit g found.sorts fuel (root_call t) ≡ Some r → r.height ≡ height d
+
+-- the demand read off an attribution has exactly what the root's visit meets, with fuel for the attribution's height
+abbrev pub DemandIsReach : Type 0
+DemandIsReach = (g : Grammar) (found : Partitions) → HasSoundPlan g found → (fuel : ℕ) (t : Tree) (d : Decorated) (x : Met) → IsTrue (fits g.prods t (k.Sort g.start))
+    → IsAttribution g t d → height d ≤ fuel → Contains (demand g found.sorts d) x ↔ Contains (reach g found.sorts fuel (root_call t)) x
