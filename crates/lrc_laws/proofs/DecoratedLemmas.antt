@@ -20,12 +20,11 @@ use Rattle.lrc_order.specs.declared.Place.{Place}
 use Rattle.lrc_order.specs.declared.Partition.{Partition}
 use Rattle.lrc_order.specs.Needs.{symbols_of, kid_symbols, extra_symbols, own_end, kids_end, left_place}
 use Rattle.lrc_sequence.specs.declared.Action.TheVariants as a
-use Rattle.lrc_sequence.specs.declared.Bound.{Bound}
 use Rattle.lrc_sequence.specs.declared.Bound.TheVariants as b
 use Rattle.lrc_sequence.specs.Items.{symbol_at}
 use Rattle.lrc_sequence.specs.Bindings.{binding as items_between}
 use Rattle.lrc_sequence.specs.Sound.{IsSound, IsVisitThere}
-use Rattle.lrc_visit_meaning.specs.Values.{value, binding, Data, no_data, data_row, value_in, no_tree, Call, Result}
+use Rattle.lrc_visit_meaning.specs.Values.{value, Data, data_row, value_in, no_tree, Call, Result}
 use Rattle.lrc_visit_meaning.specs.Visits.{Held, values_in, leaf_in, symbol_trees, equation_of, evaluated, tree_at, is_of_kind, step, one_visit, plain_visit}
 pub use Rattle.lrc_visit_meaning.specs.Shown.{no_bound, held_of, bound_of, bounds_of, face_of, node_held}
 use Rattle.lrc_visit_meaning.specs.Shown.{no_height, visit_height, heights_of}
@@ -33,7 +32,7 @@ use Rattle.lrc_laws.proofs.ListLemmas.{member_slice, slice_of_member}
 use Rattle.lrc_laws.proofs.FuelLemmas.{max_left, max_right}
 use Rattle.lrc_laws.proofs.HeldLemmas.{IsMade}
 use Rattle.lrc_laws.proofs.ReadLemmas.{found_there, value_same}
-use Rattle.lrc_laws.proofs.NodeLemmas.{Face, IsProper, Serves, own_face, symbol_face, AllMade, AreAlike, serves_alike, visit_made, node_serves}
+use Rattle.lrc_laws.proofs.NodeLemmas.{IsProper, Serves, own_face, symbol_face, AllMade, AreAlike, serves_alike, visit_made, node_serves}
 use Rattle.lrc_laws.proofs.PartLemmas.{symbols_in, symbols_right, symbols_low, left_kind, bare_of_kind, kids_of_kinds, leaf_same, symbol_trees_are, kid_symbol, extra_symbol, kid_counts, extra_counts}
 use Rattle.lrc_laws.proofs.OccurrenceLemmas.{slice_left, slice_right}
 use Rattle.lrc_laws.proofs.FormedLemmas.{equation_there}

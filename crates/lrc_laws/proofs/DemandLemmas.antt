@@ -1,41 +1,31 @@
 -- Demand read off an attribution is the reach of its visits.
-use Rattle.std.proofs.Common.{◌≡◌, ℕ, zero, suc, ◌+◌, ◌-◌, ◌<◌, ◌≤◌, max, Bool, true, false, IsTrue, ◌==◌, cond, List, [], ◌∷◌, ◌++◌, map, length, get_or, Contains, Option, Some, None, ◌⊎◌, inl, inr, ◌↔◌, slice_get, refl, sym, ap, ◌∙◌, subst, arith, length-append}
+use Rattle.std.proofs.Common.{◌≡◌, ℕ, zero, suc, ◌≤◌, max, IsTrue, cond, List, [], ◌∷◌, ◌++◌, length, Contains, Option, Some, None, ◌⊎◌, inl, inr, slice_get, refl, sym, ap, ◌∙◌, subst, arith}
 use Rattle.std.specs.Prelude.{flat_map, slice_index_or}
 use Rattle.std.specs.Option.{option_map, option_map_or, option_and_then}
-use Rattle.std.specs.List.{range_with_len}
-use Rattle.std.proofs.lemmas.Bool.{eq-eqb, eqb-true}
-use Rattle.std.proofs.lemmas.Option.{none-some, same_Some, slice_get_within}
-use Rattle.std.proofs.lemmas.List.Elements.{Contains-append_left, Contains-append_right, Contains-append_cases}
+use Rattle.std.proofs.lemmas.Option.{same_Some}
 use Rattle.lrc_base.specs.declared.grammar.Kind.TheVariants as k
-use Rattle.lrc_base.specs.declared.grammar.Equation.{Equation}
 use Rattle.lrc_base.specs.declared.grammar.Production.{Production}
-use Rattle.lrc_meaning.specs.Tree.{Tree, Trees, node, is_left}
-use Rattle.lrc_meaning.specs.Expression.{expression}
+use Rattle.lrc_meaning.specs.Tree.{Tree, node, is_left}
 use Rattle.lrc_meaning.specs.Grammar.{Grammar, attrs_of_sort, is_well_formed}
-use Rattle.lrc_meaning.specs.Attribution.{Decorated, at_node, Parts, end, symbol, bare, bare_kids, production_of, occurrence_values, leaf_at, IsNodeRight, IsRight, AreRight, height, highest}
-use Rattle.lrc_meaning.specs.Attribution as m
-use Rattle.lrc_order.specs.declared.Place.{Place}
+use Rattle.lrc_meaning.specs.Attribution.{Decorated, at_node, Parts, bare, bare_kids, production_of, occurrence_values, IsNodeRight, IsRight, AreRight, height, highest}
 use Rattle.lrc_order.specs.declared.Partition.{Partition}
-use Rattle.lrc_order.specs.Needs.{symbols_of, own_end, kids_end}
 use Rattle.lrc_sequence.specs.declared.Action.{Action}
 use Rattle.lrc_sequence.specs.declared.Action.TheVariants as a
 use Rattle.lrc_sequence.specs.Items.{symbol_at, makes, visits_of}
 use Rattle.lrc_sequence.specs.Sequences.{segment}
-use Rattle.lrc_sequence.specs.Sound.{IsDone, IsSound, IsVisitThere, handed_in}
+use Rattle.lrc_sequence.specs.Sound.{IsDone, IsSound, handed_in}
 use Rattle.lrc_visit_meaning.specs.Values.{value, Call, Result}
-use Rattle.lrc_visit_meaning.specs.Visits.{Held, Given, Walked, walk, leaf_in, equation_of, evaluated, values_in, tree_at, call_of, given_by, is_of_kind, are_of_kinds, held_at_start, result_of, step, visit_of_node, one_visit, plain_visit}
+use Rattle.lrc_visit_meaning.specs.Visits.{Held, Given, Walked, walk, evaluated, tree_at, call_of, given_by, is_of_kind, held_at_start, result_of, step, visit_of_node, one_visit, plain_visit}
 use Rattle.lrc_visit_meaning.specs.Shown.{no_height, highest_visit, answer, visit_height, heights_of}
-use Rattle.lrc_visit_meaning.specs.Demand.{Met, called, answered, built, built_in, equation_met, walk_met, action_met, node_met, reach, visit_met, own_met, demand, demands}
-use Rattle.lrc_laws.proofs.ListLemmas.{member_first, member_later, member_cases, no_member, member_map, member_flat, member_of_flat, member_range, member_of_range, member_slice, slice_of_member}
+use Rattle.lrc_visit_meaning.specs.Demand.{called, answered, walk_met, action_met, node_met, reach}
 use Rattle.lrc_laws.proofs.FuelLemmas.{mapped, where_true, max_left, max_right}
 use Rattle.lrc_laws.proofs.HeldLemmas.{Agree, IsMade}
-use Rattle.lrc_laws.proofs.ReadLemmas.{step_reads, found_there}
-use Rattle.lrc_laws.proofs.NodeLemmas.{Face, asked, Answers, ServesOne, Serves, own_face, symbol_face, AllMade, AreAlike, same_asked, start_agrees, call_asks}
-use Rattle.lrc_laws.proofs.PartLemmas.{symbols_in, symbols_right, symbols_low, left_kind, bare_of_kind, leaf_same, kid_counts}
-use Rattle.lrc_laws.proofs.FormedLemmas.{equation_there, one_equation, find_one, target_defined}
-use Rattle.lrc_laws.proofs.DecoratedLemmas.{face_of, node_held, held_proper, IsSymbol, symbol_is, values_are, node_made, own_alike, right_serves, serves, AreSound, sort_same, bounds_of}
+use Rattle.lrc_laws.proofs.ReadLemmas.{step_reads}
+use Rattle.lrc_laws.proofs.NodeLemmas.{asked, Serves, own_face, symbol_face, AllMade, AreAlike, same_asked, start_agrees, call_asks}
+use Rattle.lrc_laws.proofs.PartLemmas.{symbols_in, symbols_right, symbols_low, left_kind}
+use Rattle.lrc_laws.proofs.DecoratedLemmas.{face_of, node_held, held_proper, IsSymbol, symbol_is, node_made, own_alike, right_serves, serves, AreSound, sort_same, bounds_of}
 use Rattle.lrc_laws.proofs.BackLemmas.{Served, served_visit}
-use Rattle.lrc_laws.proofs.MetLemmas.{built_same, met_reads, greatest, walk_meets}
+use Rattle.lrc_laws.proofs.MetLemmas.{met_reads, greatest, walk_meets}
 
 max_zero : (n : ℕ) → max 0 n ≡ n
 max_zero n = omega arith

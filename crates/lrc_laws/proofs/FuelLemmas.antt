@@ -14,7 +14,7 @@ use Rattle.lrc_sequence.specs.Items.{symbol_at, makes}
 use Rattle.lrc_sequence.specs.Sequences.{segment}
 use Rattle.lrc_visit_meaning.specs.Values.{Call, Result}
 pub use Rattle.lrc_visit_meaning.specs.Visits.{walked_on}
-use Rattle.lrc_visit_meaning.specs.Visits.{Held, Given, Walked, holding, walk, is_of_kind, are_of_kinds, tree_at, call_of, given_by, held_at_start, result_of, evaluated, step, visit_of_node, visit_of_tree, plain_visit}
+use Rattle.lrc_visit_meaning.specs.Visits.{Held, Given, Walked, walk, is_of_kind, are_of_kinds, tree_at, call_of, given_by, held_at_start, result_of, evaluated, step, visit_of_node, visit_of_tree, plain_visit}
 
 -- what an option is made of, where it is there
 pub mapped : {A B : Type 0} (f : A → B) (o : Option A) (y : B) → option_map f o ≡ Some y → (x : A) × (o ≡ Some x) × (f x ≡ y)

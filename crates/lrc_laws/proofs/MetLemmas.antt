@@ -1,14 +1,14 @@
 -- What actions and walks meet, by what is held.
-use Rattle.std.proofs.Common.{◌≡◌, ℕ, zero, suc, ◌+◌, ◌-◌, ◌<◌, ◌≤◌, max, Bool, true, false, cond, List, [], ◌∷◌, ◌++◌, map, length, Contains, Option, Some, None, ◌⊎◌, inl, inr, slice_get, refl, sym, ap, ◌∙◌, subst, arith, append_assoc}
-use Rattle.std.specs.Prelude.{flat_map, find, ◌==◌}
-use Rattle.std.specs.Option.{option_map, option_map_or, option_and_then}
-use Rattle.std.proofs.lemmas.Option.{none-some, same_Some}
+use Rattle.std.proofs.Common.{◌≡◌, ℕ, max, cond, List, [], ◌∷◌, ◌++◌, map, length, Contains, Option, Some, None, slice_get, refl, sym, ap, ◌∙◌, subst, arith}
+use Rattle.std.specs.Prelude.{flat_map, ◌==◌}
+use Rattle.std.specs.Option.{option_map_or, option_and_then}
+use Rattle.std.proofs.lemmas.Option.{same_Some}
 use Rattle.std.proofs.lemmas.List.Elements.{Contains-append_left, Contains-append_right}
 use Rattle.lrc_base.specs.declared.grammar.Kind.TheVariants as k
 use Rattle.lrc_base.specs.declared.grammar.Equation.{Equation}
 use Rattle.lrc_base.specs.declared.grammar.Sort.{Sort}
 use Rattle.lrc_base.specs.declared.grammar.Production.{Production}
-use Rattle.lrc_meaning.specs.Tree.{Tree, Trees, node}
+use Rattle.lrc_meaning.specs.Tree.{Tree, Trees}
 use Rattle.lrc_meaning.specs.Expression.{Expression, literal, occurrence, leaf, binary, choice, make, Expressions, no_more, and_more, expression, bool_in, value_of}
 use Rattle.lrc_meaning.specs.Grammar.{Grammar, occurrences_of}
 use Rattle.lrc_order.specs.declared.Partition.{Partition}
@@ -22,9 +22,9 @@ use Rattle.lrc_sequence.specs.Sound.{AreReady}
 use Rattle.lrc_visit_meaning.specs.Values.{value_in, Call, Result}
 use Rattle.lrc_visit_meaning.specs.Visits.{Held, Given, Walked, walked_on, holding, walk, values_in, leaf_in, equation_of, tree_at, call_of, is_of_kind}
 use Rattle.lrc_visit_meaning.specs.Demand.{Met, built, built_in, built_in_each, walk_met, equation_met, action_met}
-use Rattle.lrc_laws.proofs.ListLemmas.{member_first, member_later, no_member}
-use Rattle.lrc_laws.proofs.HeldLemmas.{Agree, agree_part, agree_held, IsMade, ReadsNeeds, AreMade}
-use Rattle.lrc_laws.proofs.ReadLemmas.{value_same, values_same, slice_same, found_there, read_needed, same_tree_at, same_call}
+use Rattle.lrc_laws.proofs.ListLemmas.{member_first, member_later}
+use Rattle.lrc_laws.proofs.HeldLemmas.{Agree, agree_part, agree_held, ReadsNeeds, AreMade}
+use Rattle.lrc_laws.proofs.ReadLemmas.{value_same, slice_same, found_there, read_needed, same_tree_at, same_call}
 
 module _ (vs ws : List Tree) (leaves others : ℕ → Option Tree) (same_leaves : (i : ℕ) → leaves i ≡ others i) where
   abbrev Same : List ℕ → Type 0
@@ -107,10 +107,9 @@ module _ (sorts : List Sort) (parts : List Partition) (p : Production) (step : H
       (agree_held available (makes sorts parts p x) w.held n agrees) in
       let behind : walk (makes sorts parts p) step xs next ≡ Some v =
       sym (ap (option_and_then (λ r. walk (makes sorts parts p) step xs (walked_on (makes sorts parts p) x w r))) same) ∙ e in
-      let rest = walk_meets xs next v (available ++ makes sorts parts p x) n behind held ready.1 (λ y c. made y (member_later x xs y c)) (λ y c. high y (member_later x xs y c)) in
-      (
+      let rest = walk_meets xs next v (available ++ makes sorts parts p x) n behind held ready.1 (λ y c. made y (member_later x xs y c)) (λ y c. high y (member_later x xs y c)) in (
         ap (λ ms. ms ++ option_map_or (λ (r : Given). walk_met (makes sorts parts p) step met xs (walked_on (makes sorts parts p) x w r)) (step w.held x) []) (meets w.held n x needed)
-        ∙ ap (λ o. met n x ++ option_map_or (λ (r : Given). walk_met (makes sorts parts p) step met xs (walked_on (makes sorts parts p) x w r)) o []) same
-        ∙ ap (λ ms. met n x ++ ms) rest.0,
+            ∙ ap (λ o. met n x ++ option_map_or (λ (r : Given). walk_met (makes sorts parts p) step met xs (walked_on (makes sorts parts p) x w r)) o []) same
+            ∙ ap (λ ms. met n x ++ ms) rest.0,
         rest.1 ∙ max_turn w.height m.given.height (greatest height xs) ∙ ap (λ h. max w.height (max h (greatest height xs))) (high x (member_first x xs)),
       )

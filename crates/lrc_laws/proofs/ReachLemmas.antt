@@ -1,21 +1,20 @@
 -- The demand of an attribution has exactly what the reaches of its visits have.
-use Rattle.std.proofs.Common.{◌≡◌, ℕ, zero, suc, ◌+◌, ◌-◌, ◌<◌, ◌≤◌, max, Bool, true, false, not, ◌&&◌, IsTrue, ◌==◌, cond, List, [], ◌∷◌, ◌++◌, map, length, get_or, Contains, Option, Some, None, ◌⊎◌, inl, inr, slice_get, refl, sym, ap, ◌∙◌, subst, arith, length-append}
+use Rattle.std.proofs.Common.{◌≡◌, ℕ, zero, suc, ◌+◌, ◌<◌, ◌≤◌, true, not, ◌&&◌, IsTrue, ◌==◌, cond, List, [], ◌∷◌, ◌++◌, map, length, Contains, Some, inl, inr, slice_get, refl, sym, ap, ◌∙◌, subst, arith, length-append}
 use Rattle.std.specs.Prelude.{flat_map}
 use Rattle.std.specs.Option.{option_map_or}
 use Rattle.std.specs.List.{range_with_len}
-use Rattle.std.proofs.lemmas.Bool.{eq-eqb, eqb-true, and_parts, false≢true, not-true}
+use Rattle.std.proofs.lemmas.Bool.{eq-eqb, and_parts, false≢true, not-true}
 use Rattle.std.proofs.lemmas.Option.{same_Some, slice_get_within}
 use Rattle.std.proofs.lemmas.List.Elements.{Contains-append_left, Contains-append_right, Contains-append_cases}
 use Rattle.lrc_base.specs.declared.grammar.Kind.TheVariants as k
 use Rattle.lrc_base.specs.declared.grammar.Extra.{Extra}
 use Rattle.lrc_base.specs.declared.grammar.Equation.{Equation}
 use Rattle.lrc_base.specs.declared.grammar.Production.{Production}
-use Rattle.lrc_meaning.specs.Tree.{Tree, Trees, node, is_left}
+use Rattle.lrc_meaning.specs.Tree.{Tree, is_left}
 use Rattle.lrc_meaning.specs.Expression.{expression}
 use Rattle.lrc_meaning.specs.Grammar.{Grammar, extra_occurrences, is_well_formed}
 use Rattle.lrc_meaning.specs.Attribution.{Decorated, at_node, Parts, end, symbol, bare, bare_kids, production_of, occurrence_values, leaf_at, extras_agree, IsNodeRight, IsRight, AreRight, height, highest}
 use Rattle.lrc_meaning.specs.Attribution as m
-use Rattle.lrc_order.specs.declared.Place.{Place}
 use Rattle.lrc_order.specs.declared.Partition.{Partition}
 use Rattle.lrc_order.specs.Needs.{symbol_of, extra_symbols, symbols_of, own_end, kids_end, kid_symbols}
 use Rattle.lrc_sequence.specs.declared.Action.{Action}
@@ -23,11 +22,10 @@ use Rattle.lrc_sequence.specs.declared.Action.TheVariants as a
 use Rattle.lrc_sequence.specs.Items.{symbol_at, visits_of}
 use Rattle.lrc_sequence.specs.Sequences.{segment}
 use Rattle.lrc_sequence.specs.Sound.{IsDone, IsSound}
-use Rattle.lrc_visit_meaning.specs.Values.{Call}
-use Rattle.lrc_visit_meaning.specs.Visits.{leaf_in, equation_of, values_in, tree_at, call_of, is_of_kind, plain_visit}
+use Rattle.lrc_visit_meaning.specs.Visits.{leaf_in, equation_of, values_in, tree_at, call_of, is_of_kind}
 use Rattle.lrc_visit_meaning.specs.Shown.{answer, visit_height}
 use Rattle.lrc_visit_meaning.specs.Demand.{Met, called, answered, built, equation_met, action_met, reach, visit_met, own_met, demand, demands}
-use Rattle.lrc_laws.proofs.ListLemmas.{member_first, member_later, member_cases, no_member, member_flat, member_of_flat, member_range, member_of_range, member_slice, slice_of_member}
+use Rattle.lrc_laws.proofs.ListLemmas.{member_first, member_later, member_cases, no_member, member_flat, member_of_flat, member_range, member_of_range, slice_of_member}
 use Rattle.lrc_laws.proofs.FuelLemmas.{max_left, max_right}
 use Rattle.lrc_laws.proofs.ReadLemmas.{found_there}
 use Rattle.lrc_laws.proofs.NodeLemmas.{asked}

@@ -1,5 +1,5 @@
 -- Attributions of trees of the start sort, and the one visit of their roots.
-use Rattle.std.proofs.Common.{◌≡◌, ℕ, zero, suc, ◌+◌, ◌-◌, ◌<◌, ◌≤◌, max, Bool, true, false, not, ◌&&◌, ◌==◌, IsTrue, cond, List, [], ◌∷◌, map, length, get_or, Contains, Some, None, inl, inr, ◌↔◌, slice_get, refl, sym, ap, ◌∙◌, subst, arith}
+use Rattle.std.proofs.Common.{◌≡◌, ℕ, zero, suc, ◌+◌, ◌-◌, ◌<◌, ◌≤◌, max, Bool, true, false, not, ◌&&◌, ◌==◌, IsTrue, cond, List, [], ◌∷◌, map, length, get_or, Contains, Some, inl, inr, ◌↔◌, slice_get, refl, sym, ap, ◌∙◌, subst, arith}
 use Rattle.std.specs.Prelude.{filter, slice_index_or}
 use Rattle.std.specs.Option.{option_map_or}
 use Rattle.std.specs.List.{range_with_len}
@@ -190,8 +190,7 @@ module _ (g : Grammar) (found : Partitions) (plan : HasSoundPlan g found) where
       let left = of_start t d a.is_bare h in
       let both = demand_reach g found.sorts plan.formed sound fuel d g.start a.is_right low left x in
       let call : asked g found.sorts (face_of g found.sorts d) g.start (bare d) 1 ≡ root_call t = root_asked (face_of g found.sorts d) (bare d) ∙ ap root_call a.is_bare in
-      let single = one in
-      (
+      let single = one in (
         λ c.
             let r = both.there c in
             let low_visit = r.first in

@@ -2,7 +2,7 @@
 --
 -- Of the two the first is read off a decorated tree and the second off the plain visit. After the shared terms and calls
 -- of visits of Pennings, Generating Incremental Attribute Evaluators (1994).
-use Rattle.std.specs.Prelude.{ℕ, zero, suc, Bool, cond, List, [], ◌∷◌, ◌++◌, map, flat_map, Option, Some, None, option_and_then, slice_get}
+use Rattle.std.specs.Prelude.{ℕ, zero, suc, cond, List, [], ◌∷◌, ◌++◌, map, flat_map, Option, option_and_then, slice_get}
 use Rattle.std.specs.Option.{option_map_or}
 use Rattle.std.specs.List.{range_with_len}
 use Rattle.lrc_base.specs.declared.grammar.Kind.TheVariants as k

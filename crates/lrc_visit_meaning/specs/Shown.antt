@@ -1,6 +1,6 @@
 -- What a decorated tree shows to the node above it: the values of its attributes, and its bindings from visit to visit;
 -- and so the calls of its visits, and their results.
-use Rattle.std.specs.Prelude.{ℕ, suc, ◌+◌, ◌-◌, max, Bool, true, false, List, [], ◌∷◌, ◌++◌, map, slice_get, slice_index_or}
+use Rattle.std.specs.Prelude.{ℕ, suc, ◌+◌, ◌-◌, max, true, false, List, [], ◌∷◌, ◌++◌, map, slice_get, slice_index_or}
 use Rattle.std.specs.Option.{option_map_or}
 use Rattle.std.specs.List.{range_with_len}
 use Rattle.lrc_meaning.specs.Tree.{Tree}
