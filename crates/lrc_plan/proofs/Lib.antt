@@ -5,3 +5,9 @@ pub mod PairLemmas
 pub mod WaitingLemmas
 pub mod ReadyLemmas
 pub mod SegmentLemmas
+pub mod GainLemmas
+pub mod InLemmas
+pub mod BindingLemmas
+pub mod FewLemmas
+pub mod ReadLemmas
+pub mod ListedLemmas

@@ -23,6 +23,15 @@ flat_range_more f old items now n before one =
     ∙ ap (λ xs. flat_map f (range_with_len 0 n) ++ xs) (append-nil (f n)) in
     one ∙ ap (λ xs. xs ++ f n) before ∙ append_assoc old (flat_map f (range_with_len 0 n)) (f n) ∙ ap (λ xs. old ++ xs) (sym more)
 
+pub flat_row_more : {X : Type 0} (f : ℕ → List X) (old items now : List X) (a n k : ℕ) → items ≡ old ++ flat_map f (range_with_len a n) → now ≡ items ++ f k → a + n ≡ k
+    → now ≡ old ++ flat_map f (range_with_len a (n + 1))
+flat_row_more f old items now a n k before one at =
+    let more : flat_map f (range_with_len a (n + 1)) ≡ flat_map f (range_with_len a n) ++ f k =
+    ap (flat_map f) (range_more a n ∙ ap (λ m. range_with_len a n ++ m ∷ []) at)
+    ∙ flat_map-append f (range_with_len a n) (k ∷ [])
+    ∙ ap (λ xs. flat_map f (range_with_len a n) ++ xs) (append-nil (f k)) in
+    one ∙ ap (λ xs. xs ++ f k) before ∙ append_assoc old (flat_map f (range_with_len a n)) (f k) ∙ ap (λ xs. old ++ xs) (sym more)
+
 map_same : {X : Type 0} (f g : ℕ → X) (a n t : ℕ) → t < a → ((o : ℕ) → ¬ (o ≡ t) → g o ≡ f o) → map f (range_with_len a n) ≡ map g (range_with_len a n)
 map_same f g a zero t less same = refl
 map_same f g a (suc n) t less same =
@@ -84,3 +93,12 @@ pub all_front : {X : Type 0} (P : X → Type 0) (xs ys : List X) → All P (xs +
 all_front P xs ys all k d less =
     let more = length-append xs ys in
     subst P (get_or_append_left xs ys d k less) (all k d (omega arith))
+
+pub flat_list_more : {X Y : Type 0} (f : X → List Y) (xs : List X) (i : ℕ) (x : X) (items now : List Y) → i < length xs → x ≡ get_or xs i x
+    → items ≡ flat_map f (take i xs) → now ≡ items ++ f x → now ≡ flat_map f (take (i + 1) xs)
+flat_list_more f xs i x items now there is before one =
+    one
+    ∙ ap (λ ys. ys ++ f x) before
+    ∙ sym (ap (flat_map f) (take_more xs i x there ∙ ap (λ z. take i xs ++ z ∷ []) (sym is))
+    ∙ flat_map-append f (take i xs) (x ∷ [])
+    ∙ ap (λ ys. flat_map f (take i xs) ++ ys) (append-nil (f x)))

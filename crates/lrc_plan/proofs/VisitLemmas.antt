@@ -35,6 +35,18 @@ module _ {X : Type 0} (f : ℕ → X) (test : ℕ → Bool) where
       ∙ map-append f (filter test (range_with_len 0 n)) (filter test (n ∷ []))
       ∙ ap (λ xs. passed n ++ xs) (one_over b n e)
 
+-- the numbers that pass, with one number more
+filter_over : (test : ℕ → Bool) (b : Bool) (k : ℕ) → test k ≡ b → filter test (k ∷ []) ≡ cond b (k ∷ []) []
+filter_over test true k e = rw e refl
+filter_over test false k e = rw e refl
+
+pub filtered_more : (test : ℕ → Bool) (n : ℕ) (b : Bool) → test n ≡ b → filter test (range_with_len 0 (n + 1)) ≡ filter test (range_with_len 0 n) ++ cond b (n ∷ []) []
+filtered_more test n b e =
+    let at : 0 + n ≡ n = omega arith in
+    ap (filter test) (range_more 0 n ∙ ap (λ k. range_with_len 0 n ++ k ∷ []) at)
+    ∙ filter-append test (range_with_len 0 n) (n ∷ [])
+    ∙ ap (λ xs. filter test (range_with_len 0 n) ++ xs) (filter_over test b n e)
+
 -- two functions that agree below a number
 pub passed_same : {X : Type 0} (f g : ℕ → X) (test : ℕ → Bool) (n : ℕ) → ((o : ℕ) → o < n → f o ≡ g o) → passed f test n ≡ passed g test n
 passed_same f g test zero same = refl

@@ -1,3 +1,7 @@
 pub mod ItemSets
 pub mod Waiting
 pub mod Running
+pub mod Handing
+pub mod Gaining
+pub mod Planned
+pub mod Text

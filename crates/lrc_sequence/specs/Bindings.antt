@@ -14,11 +14,11 @@ use Rattle.lrc_sequence.specs.declared.Bound.TheVariants as b
 use Rattle.lrc_sequence.specs.Items.{is_among, visits_of, values_of_visit, symbol_at, needs, makes}
 use Rattle.lrc_sequence.specs.Sequences.{segment}
 
-module _ (sorts : List Sort) (parts : List Partition) (p : Production) where
-  -- the bindings of a symbol between two of its n visits, by the earlier visit, then the later
-  abbrev pub bindings_at : ℕ → ℕ → List Bound
-  bindings_at s n = flat_map (λ i. map (b.Kid s i) (range_with_len (i + 1) (n - i))) (range_with_len 1 n)
+-- the bindings of a symbol between two of its n visits, by the earlier visit, then the later
+abbrev pub bindings_at : ℕ → ℕ → List Bound
+bindings_at s n = flat_map (λ i. map (b.Kid s i) (range_with_len (i + 1) (n - i))) (range_with_len 1 n)
 
+module _ (sorts : List Sort) (parts : List Partition) (p : Production) where
   -- All items of a production: the values by occurrence, then the bindings by symbol.
   abbrev pub items_of : List Bound
   items_of =

@@ -3,4 +3,5 @@ pub mod Sequences
 pub mod Bindings
 pub mod Plans
 pub mod Sound
+pub mod Laws
 pub mod Examples

@@ -19,12 +19,6 @@ module _ (sorts : List Sort) (parts : List Partition) (p : Production) where
   handed_in v =
       values_of_visit sorts parts true p.left 0 v ++ flat_map (λ u. binding sorts parts p u v) (range_with_len 1 (v - 1))
 
-  -- what it answers: its synthesised attributes, and the bindings to later visits
-  abbrev pub handed_out : ℕ → List Bound
-  handed_out v =
-      values_of_visit sorts parts false p.left 0 v
-      ++ flat_map (binding sorts parts p v) (range_with_len (v + 1) (visits_of parts p.left - v))
-
   -- each action finds what it needs among what is available before it
   abbrev pub AreReady : List Bound → List Action → Type 0
   AreReady available [] = ⊤
@@ -41,12 +35,20 @@ module _ (sorts : List Sort) (parts : List Partition) (p : Production) where
     pub first : 1 ≤ v
     pub last : v ≤ visits_of parts (symbol_at sorts p s).sort
 
-  pub record IsSound : Type 0 where
+  -- The visits of a node can be made one after another, each with what the earlier ones handed on.
+  pub record IsReady : Type 0 where
     -- from what a visit is called with, each of its actions finds what it needs
     pub ready : (v : ℕ) → 1 ≤ v → v ≤ visits_of parts p.left → AreReady (handed_in v) (segment sorts parts p v)
-    -- and at the end all that the visit answers is there
+    -- and at its end all that it hands on is there
+    pub hands_on : (v w : ℕ) → 1 ≤ v → v ≤ visits_of parts p.left
+        → All (Contains (handed_in v ++ flat_map (makes sorts parts p) (segment sorts parts p v))) (binding sorts parts p v w)
+
+  -- Besides, every attribute is given, nothing becomes available twice, and every action is made.
+  pub record IsSound : Type 0 where
+    pub runs : IsReady
+    -- at the end of a visit its synthesised attributes are there
     pub gives : (v : ℕ) → 1 ≤ v → v ≤ visits_of parts p.left
-        → All (Contains (handed_in v ++ flat_map (makes sorts parts p) (segment sorts parts p v))) (handed_out v)
+        → All (Contains (handed_in v ++ flat_map (makes sorts parts p) (segment sorts parts p v))) (values_of_visit sorts parts false p.left 0 v)
     -- no item becomes available twice, in one visit or in two
     pub fresh : AllPairs (λ x y. ¬ (x ≡ y)) (flat_map (λ v. gained sorts parts p v (segment sorts parts p v)) (range_with_len 1 (visits_of parts p.left)))
     -- each occurrence to be defined is evaluated, and each visit of each symbol is made

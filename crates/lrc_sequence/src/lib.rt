@@ -8,6 +8,7 @@ ghost use Rattle.std.specs.Prelude.{◌≡◌, [], ◌∷◌};
 ghost use Rattle.lrc_meaning.specs.Examples.{declarations};
 ghost use Rattle.lrc_sequence.specs.Sequences.{segments_of};
 ghost use Rattle.lrc_sequence.specs.Bindings.{binding};
+ghost use Rattle.lrc_sequence.specs.Laws.{ExtendedAreRead};
 ghost use Rattle.lrc_sequence.specs.Examples.{partitions, top, declaration, top_segments, declaration_segments, handed};
 
 use lrc_base::List;
@@ -54,4 +55,10 @@ pub fn declarations_are_visited_twice()
     ensures top { segments_of declarations.sorts partitions top ≡ top_segments }
     ensures declaration { segments_of declarations.sorts partitions declaration ≡ declaration_segments }
     ensures binding { binding declarations.sorts partitions declaration 1 2 ≡ handed }
+{}
+
+/// The pairs of occurrences that are read off the partitions of a grammar are the extended
+/// dependencies of its productions.
+pub fn extended_dependencies_are_read_off()
+    ensures { ExtendedAreRead }
 {}

@@ -1,0 +1,112 @@
+-- A production of a grammar has few occurrences and symbols, and an empty set of its shape has room for its items.
+use Rattle.std.proofs.Common.{◌≡◌, ℕ, ◌+◌, ◌<◌, ◌≤◌, ◌^◌, Bool, true, false, cond, IsTrue, List, [], ◌∷◌, ◌++◌, length, map, get_or, All, Contains, Option, Some, None, refl, length-append, arith, zero-le}
+use Rattle.std.specs.Prelude.{nat_le}
+use Rattle.std.proofs.lemmas.Bool.{and_parts, leb-true}
+use Rattle.std.proofs.lemmas.List.Elements.{All-contains, All-map, All-weaker}
+use Rattle.lrc_base.specs.declared.grammar.Kind.{Kind}
+use Rattle.lrc_base.specs.declared.grammar.Kind.TheVariants as k
+use Rattle.lrc_base.specs.declared.grammar.Sort.{Sort}
+use Rattle.lrc_base.specs.declared.grammar.Kid.{Kid}
+use Rattle.lrc_base.specs.declared.grammar.Extra.{Extra}
+use Rattle.lrc_base.specs.declared.grammar.Production.{Production}
+use Rattle.lrc_meaning.specs.Grammar.{Grammar, attrs_of_sort, attrs_of, extra_occurrences, occurrences_of, is_production_right, is_well_formed}
+use Rattle.lrc_grammar.specs.Limits.{has_few_parts, keeps_limits}
+use Rattle.lrc_order.specs.declared.Need.{Need}
+use Rattle.lrc_order.specs.declared.Partition.{Partition}
+use Rattle.lrc_order.specs.declared.Place.{Place}
+use Rattle.lrc_order.specs.Needs.{symbol_of, kid_symbols, extra_symbols, own_end, kids_end, symbols_of, left_place, places_of}
+use Rattle.lrc_ordered.proofs.PlaceLemmas.{IsWithin, places_within}
+use Rattle.lrc_ordered.proofs.RangeLemmas.{all_pass}
+use Rattle.lrc_ordered.proofs.OrderLemmas.{few_attrs}
+use Rattle.lrc_ordered.proofs.SmallLemmas.{few_is_small}
+use Rattle.lrc_sequence.specs.declared.Bound.{Bound}
+use Rattle.lrc_sequence.specs.Items.{values_of_visit, extended_of}
+use Rattle.lrc_sequence.specs.Sequences.{actions_of}
+use Rattle.lrc_plan.specs.declared.waiting.Waiting.{Waiting}
+use Rattle.lrc_plan.specs.Waiting.{waiting_of}
+use Rattle.lrc_plan.specs.ItemSets.{Flags, HasRoom, HasRoomFor}
+use Rattle.lrc_plan.specs.Gaining.{shape_of, IsIn}
+use Rattle.lrc_plan.proofs.InLemmas.{production_is_right, has_room, left_values_in, actions_in, IsActionIn, extended_in}
+
+-- a grammar has few sorts, and each has few attributes
+module _ (g : Grammar) (kept : IsTrue (keeps_limits g)) where
+  pub few_sorts : length g.sorts < 2 ^ 32
+  few_sorts = let le = leb-true (length g.sorts) 64 (and_parts _ _ (and_parts _ _ kept).0).0 in omega arith
+
+  pub few_attributes : (s : ℕ) → length (attrs_of_sort g.sorts s) < 2 ^ 32
+  few_attributes s = let few = few_attrs g.sorts s (few_is_small g kept).attributes in omega arith
+
+one_symbol : (kind : Kind) (start : ℕ) (tree : Option ℕ) → length (symbol_of kind start tree) ≤ 1
+one_symbol k.Int start tree = zero-le
+one_symbol k.Bool start tree = zero-le
+one_symbol k.Name start tree = zero-le
+one_symbol (k.Sort s) start tree = omega arith
+
+one_attached : (attached : Bool) (kind : Kind) (start : ℕ) → length (cond attached (symbol_of kind (start + 1) (Some start)) []) ≤ 1
+one_attached true kind start = one_symbol kind (start + 1) (Some start)
+one_attached false kind start = zero-le
+
+kid_symbols_few : (sorts : List Sort) (start : ℕ) (kids : List Kid) → length (kid_symbols sorts start kids) ≤ length kids
+kid_symbols_few sorts start [] = zero-le
+kid_symbols_few sorts start (kid ∷ kids) =
+    let rest = kid_symbols_few sorts (start + length (attrs_of sorts kid.kind)) kids in
+    let one = one_symbol kid.kind start None in
+    let both = length-append (symbol_of kid.kind start None) (kid_symbols sorts (start + length (attrs_of sorts kid.kind)) kids) in
+    omega arith
+
+extra_symbols_few : (sorts : List Sort) (start : ℕ) (xs : List Extra) → length (extra_symbols sorts start xs) ≤ length xs
+extra_symbols_few sorts start [] = zero-le
+extra_symbols_few sorts start (x ∷ xs) =
+    let rest = extra_symbols_few sorts (start + length (extra_occurrences sorts x)) xs in
+    let one = one_attached x.attached x.kind start in
+    let both = length-append (cond x.attached (symbol_of x.kind (start + 1) (Some start)) []) (extra_symbols sorts (start + length (extra_occurrences sorts x)) xs) in
+    omega arith
+
+module _ (g : Grammar) (well : IsTrue (is_well_formed g)) (kept : IsTrue (keeps_limits g)) (parts : List Partition) (p : Production) (there : Contains g.prods p) where
+  pub right : is_production_right g.sorts g.prods p ≡ true
+  right = production_is_right g well p there
+
+  pub few_occurrences : length (occurrences_of g.sorts p) < 2 ^ 32
+  few_occurrences =
+      let small = All-contains (λ q. length (occurrences_of g.sorts q) < 1024) g.prods p (few_is_small g kept).occurrences there in omega arith
+
+  few_parts : (length p.kids ≤ 8) × (length p.extras ≤ 16)
+  few_parts =
+      let prods = and_parts _ _ (and_parts _ _ kept).1 in
+      All-contains (λ (q : Production). (length q.kids ≤ 8) × (length q.extras ≤ 16)) g.prods p
+      (all_pass has_few_parts (λ (q : Production). (length q.kids ≤ 8) × (length q.extras ≤ 16))
+      (λ q h.
+      let parts = and_parts (nat_le (length q.kids) 8) (nat_le (length q.extras) 16) h in
+      (leb-true (length q.kids) 8 parts.0, leb-true (length q.extras) 16 parts.1)) g.prods prods.1) there
+
+  pub few_symbols : length (symbols_of g.sorts p) < 2 ^ 32
+  few_symbols =
+      let few = few_parts in
+      let kids = kid_symbols_few g.sorts (own_end g.sorts p) p.kids in
+      let extras = extra_symbols_few g.sorts (kids_end g.sorts p) p.extras in
+      let both = length-append (kid_symbols g.sorts (own_end g.sorts p) p.kids) (extra_symbols g.sorts (kids_end g.sorts p) p.extras) in
+      omega arith
+
+  pub places_fit : All (λ (place : Place). place.start + length (attrs_of_sort g.sorts place.sort) < 2 ^ 32) (places_of g.sorts p)
+  places_fit =
+      let few = few_occurrences in
+      All-weaker (IsWithin g.sorts (length (occurrences_of g.sorts p))) (λ (place : Place). place.start + length (attrs_of_sort g.sorts place.sort) < 2 ^ 32)
+      (λ place within. omega arith) (places_of g.sorts p) (places_within g.sorts p)
+
+  pub few_own : length (attrs_of_sort g.sorts p.left) < 2 ^ 32
+  few_own = let fit = places_fit 0 (left_place p) (omega arith) in omega arith
+
+  pub pairs_in : All (λ (n : Need). n.then < length (occurrences_of g.sorts p)) (extended_of g.sorts parts p)
+  pairs_in = extended_in g.sorts parts g.prods p right
+
+  module _ (f : Flags) (room : HasRoomFor f (shape_of g.sorts parts p).occurrences (shape_of g.sorts parts p).visits) where
+    pub makes_fit : All (λ (w : Waiting). All (HasRoom f) w.step.makes) (map (waiting_of g.sorts parts p) (actions_of g.sorts parts p))
+    makes_fit =
+        All-map (λ (w : Waiting). All (HasRoom f) w.step.makes) (waiting_of g.sorts parts p) (actions_of g.sorts parts p)
+        (All-weaker (IsActionIn g.sorts parts g.prods p right) (λ x. All (HasRoom f) (waiting_of g.sorts parts p x).step.makes)
+        (λ x h i d less. has_room f g.sorts parts p room (get_or (waiting_of g.sorts parts p x).step.makes i d) (h.1 i d less)) (actions_of g.sorts parts p)
+        (actions_in g.sorts parts g.prods p right))
+
+    pub inherited_fit : (v : ℕ) → All (HasRoom f) (values_of_visit g.sorts parts true p.left 0 v)
+    inherited_fit v i d less =
+        has_room f g.sorts parts p room (get_or (values_of_visit g.sorts parts true p.left 0 v) i d) (left_values_in g.sorts parts g.prods p right true v i d less)

@@ -1,0 +1,28 @@
+use Rattle.std.proofs.Common.{◌≡◌, ◌++◌, List, take, subst, ap, sym, ◌∙◌, true, false, arith}
+use Rattle.std.specs.Prelude.{flat_map}
+use Rattle.std.proofs.lemmas.List.{take_all}
+use Rattle.lrc_sequence.specs.declared.Bound.{Bound}
+use Rattle.lrc_sequence.specs.declared.Step.{Step}
+use Rattle.lrc_sequence.specs.Items.{values_of_visit}
+use Rattle.lrc_plan.proofs.GainLemmas.{Grows, grows_twice, set_of, steps_more}
+use Rattle.lrc_plan.proofs.gaining.used.Goals as goal
+
+pub steps-preserved : goal.steps-preserved
+steps-preserved c = record {
+  items = steps_more (λ (s : Step). s.needs) c.args.steps.now c.steps.step-index c.step-item.result c.steps-test.true c.step-item.is
+      c.in_ok-set.set c.steps.set c.insert_all.new.self c.as_slice.result.now c.steps.invariant.items c.insert_all.ensures.items c.as_slice.ensures;
+  room = λ x h. c.insert_all.ensures.room x (c.steps.invariant.room x h);
+}
+
+pub returns : goal.returns
+returns c =
+    let end = c.steps-test.false in
+    let steps = c.args.steps.now in
+    let values = values_of_visit c.args.sorts.now c.args.parts.now false c.args.left 0 c.args.visit in
+    let f = c.in_ok-set.set in
+    let g = c.steps.set in
+    let h = c.insert_values.new.set in
+    let all = take_all c.steps.step-index steps (omega arith) in
+    set_of f h (flat_map (λ (s : Step). s.needs) steps ++ values) c.in_ok-set.ensures.empty
+    (grows_twice f g h (flat_map (λ (s : Step). s.needs) steps) values
+    (subst (λ (xs : List Step). Grows f g (flat_map (λ (s : Step). s.needs) xs)) all c.steps.invariant.items) c.in_ok-insert_values.ensures.items)

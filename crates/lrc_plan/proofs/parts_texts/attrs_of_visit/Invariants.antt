@@ -1,0 +1,8 @@
+use Rattle.std.proofs.Common.{◌≡◌, ◌+◌, ◌++◌, ◌&&◌, ◌==◌, [], codes, map, take}
+use Rattle.std.specs.Prelude.{filter, flat_map, slice_index_or}
+use Rattle.std.specs.List.{range_with_len}
+use Rattle.lrc_sequence.specs.Items.{is_of, visit_of}
+use Rattle.lrc_plan.proofs.parts_texts.attrs_of_visit.Given as goal
+
+abbrev pub invariant-attributes : goal.invariant-attributes
+invariant-attributes l = l.found ≡ filter (λ x. is_of l.attrs l.inherited x && (visit_of l.parts l.sort x == l.visit)) (range_with_len 0 l.attr)

@@ -1,0 +1,17 @@
+use Rattle.std.proofs.Common.{◌≡◌, ℕ, ◌<◌, ◌++◌, List, [], length, get_or, slice_get, Some, sym, ap, ◌∙◌, append_assoc}
+use Rattle.std.specs.Option.{option_map_or}
+use Rattle.std.proofs.lemmas.Option.{slice_get-get_or}
+use Rattle.lrc_base.specs.declared.grammar.Sort.{Sort}
+use Rattle.lrc_plan.proofs.parts_texts.push_sort.Goals as goal
+
+name_found : (sorts : List Sort) (i : ℕ) (x : Sort) → i < length sorts → x ≡ get_or sorts i x → x.name ≡ option_map_or (λ (found : Sort). found.name) (slice_get sorts i) []
+name_found sorts i x there is = sym (ap (λ o. option_map_or (λ (found : Sort). found.name) o []) (slice_get-get_or sorts i x there ∙ ap Some (sym is)))
+
+three_parts : (t a called b l one two three : List ℕ) → one ≡ t ++ a → a ≡ called → two ≡ one ++ b → three ≡ two ++ l → three ≡ t ++ (called ++ (b ++ l))
+three_parts t a called b l one two three x y z w = rw (w, z, x, y) (simp append_assoc)
+
+pub returns : goal.returns
+returns c =
+    three_parts c.args.text.now.items _ _ _ _ c.extend_from_slice.new.self.items c.push_visits.new.text.items c.extend_from_slice-2.new.self.items
+    c.in_ok-extend_from_slice.ensures.items (c.bytes.ensures.value ∙ ap (λ (x : Sort). x.name) (sym c.index-sorts-sort.is) ∙ name_found c.args.sorts.now c.args.sort c.index-sorts-sort.result c.requires.sort c.index-sorts-sort.is)
+    c.in_ok-push_visits.ensures c.in_ok-extend_from_slice-2.ensures.items

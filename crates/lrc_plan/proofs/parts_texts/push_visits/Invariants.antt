@@ -1,0 +1,8 @@
+use Rattle.std.proofs.Common.{◌≡◌, ◌+◌, ◌++◌, ◌&&◌, ◌==◌, [], codes, map, take}
+use Rattle.std.specs.Prelude.{filter, flat_map, slice_index_or}
+use Rattle.std.specs.List.{range_with_len}
+use Rattle.lrc_plan.specs.Text.{visit_text}
+use Rattle.lrc_plan.proofs.parts_texts.push_visits.Given as goal
+
+abbrev pub invariant-visits : goal.invariant-visits
+invariant-visits l = l.text.items ≡ l.initial.text.items ++ flat_map (visit_text l.sorts l.parts l.sort) (range_with_len 1 l.earlier)

@@ -1,0 +1,9 @@
+use Rattle.std.proofs.Common.{◌≡◌, ◌+◌, ◌++◌, [], map, take}
+use Rattle.std.specs.Prelude.{flat_map, slice_index_or}
+use Rattle.std.specs.List.{range_with_len}
+use Rattle.lrc_sequence.specs.Plans.{sequences_of}
+use Rattle.lrc_plan.specs.Text.{production_lines}
+use Rattle.lrc_plan.proofs.plan_texts.plan_text.Given as goal
+
+abbrev pub invariant-productions : goal.invariant-productions
+invariant-productions l = l.text.items ≡ flat_map (λ p. production_lines l.plan.grammar.sorts p (sequences_of l.plan.grammar.sorts l.plan.parts.sorts p)) (take l.number l.plan.grammar.prods)

@@ -1,0 +1,8 @@
+use Rattle.std.proofs.Common.{◌≡◌, ◌+◌, ◌++◌, [], map, take}
+use Rattle.std.specs.Prelude.{flat_map, slice_index_or}
+use Rattle.std.specs.List.{range_with_len}
+use Rattle.lrc_plan.specs.Text.{binding_line}
+use Rattle.lrc_plan.proofs.plan_texts.push_later.Given as goal
+
+abbrev pub invariant-visits : goal.invariant-visits
+invariant-visits l = l.text.items ≡ l.initial.text.items ++ flat_map (λ k. binding_line l.names.occurrences l.names.symbols l.from (l.from + k + 1) (slice_index_or l.later k [])) (range_with_len 0 l.number)
