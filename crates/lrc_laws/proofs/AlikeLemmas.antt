@@ -85,7 +85,7 @@ module _ (g : Grammar) (parts : List Partition) (p : Production) where
     alike_in v first last earlier =
         let seg = segment g.sorts parts p v in
         let all = made_alike g.sorts parts p (step g parts visit p kids) (step_reads g parts visit p kids) seg (handed_in g.sorts parts p v) m n
-        (handed_alike v earlier) (sound.ready v first last) (λ x c. one x (v, first, last, c)) (λ x c. other x (v, first, last, c)) in
+        (handed_alike v earlier) (sound.runs.ready v first last) (λ x c. one x (v, first, last, c)) (λ x c. other x (v, first, last, c)) in
         agree_both (values_of_visit g.sorts parts true p.left 0 v) (flat_map (makes g.sorts parts p) seg) m n (inherited v)
         (agree_right (handed_in g.sorts parts p v) (flat_map (makes g.sorts parts p) seg) m n all)
 

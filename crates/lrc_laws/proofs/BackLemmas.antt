@@ -20,7 +20,7 @@ use Rattle.lrc_sequence.specs.declared.Bound.TheVariants as b
 use Rattle.lrc_sequence.specs.Items.{is_among, visit_of, visits_of, attrs_of_visit, values_of_visit, symbol_at, makes}
 use Rattle.lrc_sequence.specs.Sequences.{segment}
 use Rattle.lrc_sequence.specs.Bindings.{gained, binding as items_between}
-use Rattle.lrc_sequence.specs.Sound.{handed_in, handed_out, IsSound}
+use Rattle.lrc_sequence.specs.Sound.{handed_in, IsSound}
 use Rattle.lrc_sequence.proofs.ItemLemmas.{contained, among}
 use Rattle.lrc_visit_meaning.specs.Values.{value, binding, no_data, data_row, data_list, value_in, Call, Result}
 use Rattle.lrc_visit_meaning.specs.Visits.{Held, nothing_held, holding, Given, Walked, walk, are_of_kinds, is_of_kind, tree_at, call_of, given_by, held_at_start, result_of, evaluated, step, visit_of_node, visit_of_tree, one_visit, plain_visit}
@@ -178,7 +178,7 @@ module _ (g : Grammar) (parts : List Partition) where
       walk_made : Agree (handed_in g.sorts parts p v) here.walked.held (start_of v).held × ((x : Action) → Contains (segment g.sorts parts p v) x → IsMade g.sorts parts p (step g parts visit p kids) here.walked.held x)
       walk_made =
           walk_makes g.sorts parts p (step g parts visit p kids) (step_reads g parts visit p kids) (gives_all visit all_whole p kids) (segment g.sorts parts p v) (start_of v) here.walked
-          (handed_in g.sorts parts p v) here.is_walked (sound.ready v first last) (segment_fresh g.sorts parts p sound v first last)
+          (handed_in g.sorts parts p v) here.is_walked (sound.runs.ready v first last) (segment_fresh g.sorts parts p sound v first last)
 
       -- the binding that a later visit is called with
       bound_is : (w : ℕ) → v < w → w ≤ count → f.bound v w ≡ data_row (map here.walked.held (items_between g.sorts parts p v w))
@@ -288,7 +288,7 @@ module _ (g : Grammar) (parts : List Partition) where
       segment_made x c =
           let w = (here v first last).walked.held in
           made_on g.sorts parts p (step g parts visit p kids) (step_reads g parts visit p kids) w node_holds x
-          (λ y d. sym (end_holds y (ready_needs g.sorts parts p (segment g.sorts parts p v) (handed_in g.sorts parts p v) (sound.ready v first last) x c y d)))
+          (λ y d. sym (end_holds y (ready_needs g.sorts parts p (segment g.sorts parts p v) (handed_in g.sorts parts p v) (sound.runs.ready v first last) x c y d)))
           (λ y d. sym (end_holds y (Contains-append_right (handed_in g.sorts parts p v) (flat_map (makes g.sorts parts p) (segment g.sorts parts p v)) y (member_flat (makes g.sorts parts p) (segment g.sorts parts p v) x y c d))))
           ((walk_made v first last).1 x c)
 
@@ -307,8 +307,7 @@ module _ (g : Grammar) (parts : List Partition) where
       gives x c =
           let outs = values_of_visit g.sorts parts false p.left 0 v in
           let member = member_map (λ y. b.Value (0 + y)) (attrs_of_visit g.sorts parts false p.left v) x c in
-          let out = Contains-append_left outs (flat_map (items_between g.sorts parts p v) (range_with_len (v + 1) (visits_of parts p.left - v))) (b.Value (0 + x)) member in
-          let there = All-contains (Contains (handed_in g.sorts parts p v ++ flat_map (makes g.sorts parts p) (segment g.sorts parts p v))) (handed_out g.sorts parts p v) (b.Value (0 + x)) (sound.gives v first last) out in
+          let there = All-contains (Contains (handed_in g.sorts parts p v ++ flat_map (makes g.sorts parts p) (segment g.sorts parts p v))) outs (b.Value (0 + x)) (sound.gives v first last) member in
           let w = (here v first last).walked.held in
           let told : map (λ y. value_in (w (b.Value (0 + y)))) (attrs_of_visit g.sorts parts false p.left v) ≡ map f.attr (attrs_of_visit g.sorts parts false p.left v) =
           sym (map_map (λ y. value_in (w y)) (λ y. b.Value (0 + y)) (attrs_of_visit g.sorts parts false p.left v)) ∙ (here v first last).answers.synthesised in

@@ -140,7 +140,7 @@ module _ (g : Grammar) (parts : List Partition) (formed : IsTrue (is_well_formed
       met_here =
           walk_meets g.sorts parts q (step g parts visit q (bare_kids kids)) (action_met g parts (reach g parts fuel) q (bare_kids kids)) (step_reads g parts visit q (bare_kids kids))
           (λ l r x agrees. met_reads g parts visit (reach g parts fuel) q (bare_kids kids) l r x agrees) (action_height heights) seg start here.walked (handed_in g.sorts parts q v) held
-          here.is_walked start_held (plan.ready v first last) (λ x c. made x (v, first, last, c)) (λ x c. made_high x (v, first, last, c) (made x (v, first, last, c)))
+          here.is_walked start_held (plan.runs.ready v first last) (λ x c. made x (v, first, last, c)) (λ x c. made_high x (v, first, last, c) (made x (v, first, last, c)))
 
       high_here : suc here.walked.height ≡ visit_height g parts tree v
       high_here =

@@ -17,7 +17,7 @@ use Rattle.lrc_sequence.specs.declared.Bound.TheVariants as b
 use Rattle.lrc_sequence.specs.Items.{visits_of, visit_of, is_of, values_of_visit, attrs_of_visit, symbol_at, makes}
 use Rattle.lrc_sequence.specs.Sequences.{segment}
 use Rattle.lrc_sequence.specs.Bindings.{binding as items_between}
-use Rattle.lrc_sequence.specs.Sound.{handed_in, handed_out, IsDone, IsSound}
+use Rattle.lrc_sequence.specs.Sound.{handed_in, IsDone, IsSound}
 use Rattle.lrc_visit_meaning.specs.Values.{Datum, value, binding, data_row, data_list, value_in, binding_in, Call, Result}
 use Rattle.lrc_visit_meaning.specs.Visits.{Held, nothing_held, holding, Walked, walk, are_of_kinds, is_of_kind, tree_at, call_of, given_by, held_at_start, result_of, step, visit_of_node, one_visit}
 pub use Rattle.lrc_visit_meaning.specs.Shown.{Face, asked}
@@ -100,25 +100,16 @@ module _ (g : Grammar) (parts : List Partition) where
           (holding_agrees (handed_in g.sorts parts p v) nothing_held m x (inr c))
 
       -- at the end what is answered is what m shows
-      end_answers : (w : Walked) → Agree (handed_out g.sorts parts p v) w.held m → Answers (own_face p m) p.left v (result_of g parts p v w)
-      end_answers w agrees = record {
+      end_answers : (w : Walked) → Agree (values_of_visit g.sorts parts false p.left 0 v) w.held m → ((u : ℕ) → Agree (items_between g.sorts parts p v u) w.held m)
+          → Answers (own_face p m) p.left v (result_of g parts p v w)
+      end_answers w agrees hands = record {
         synthesised =
             map_map (λ x. value_in (w.held x)) (λ x. b.Value (0 + x)) (attrs_of_visit g.sorts parts false p.left v)
             ∙ map_agree (λ x. value_in (w.held (b.Value (0 + x)))) (λ x. value_in (m (b.Value (0 + x)))) (attrs_of_visit g.sorts parts false p.left v)
-            (λ x c.
-            ap value_in
-            (agrees (b.Value (0 + x))
-            (Contains-append_left (values_of_visit g.sorts parts false p.left 0 v) (flat_map (items_between g.sorts parts p v) (range_with_len (v + 1) (visits_of parts p.left - v))) (b.Value (0 + x))
-            (member_map (λ x. b.Value (0 + x)) (attrs_of_visit g.sorts parts false p.left v) x c))));
+            (λ x c. ap value_in (agrees (b.Value (0 + x)) (member_map (λ x. b.Value (0 + x)) (attrs_of_visit g.sorts parts false p.left v) x c)));
         bindings =
             map_agree (λ u. data_row (map w.held (items_between g.sorts parts p v u))) (λ u. data_row (map m (items_between g.sorts parts p v u))) (range_with_len (v + 1) (visits_of parts p.left - v))
-            (λ u c.
-            ap data_row
-            (map_agree w.held m (items_between g.sorts parts p v u)
-            (λ x d.
-            agrees x
-            (Contains-append_right (values_of_visit g.sorts parts false p.left 0 v) (flat_map (items_between g.sorts parts p v) (range_with_len (v + 1) (visits_of parts p.left - v))) x
-            (member_flat (items_between g.sorts parts p v) (range_with_len (v + 1) (visits_of parts p.left - v)) u x c d)))));
+            (λ u c. ap data_row (map_agree w.held m (items_between g.sorts parts p v u) (λ x d. hands u x d)));
       }
 
     -- A node on which all is made serves each of its visits.
@@ -129,7 +120,7 @@ module _ (g : Grammar) (parts : List Partition) where
         let start : Walked = record { height = 0; held = held_at_start g parts p c } in
         let seg = segment g.sorts parts p v in
         let walks = walk_follows g.sorts parts p (step g parts visit p kids) (step_reads g parts visit p kids) seg start (handed_in g.sorts parts p v) m
-        (start_agrees n v) (sound.ready v first last) (λ x d. made x (v, first, last, d)) in
+        (start_agrees n v) (sound.runs.ready v first last) (λ x d. made x (v, first, last, d)) in
         record {
           result = result_of g parts p v walks.walked;
           is_result =
@@ -137,7 +128,8 @@ module _ (g : Grammar) (parts : List Partition) where
               ∙ ap (λ k. cond k (option_map (result_of g parts p v) (walk (makes g.sorts parts p) (step g parts visit p kids) seg start)) None) kinds
               ∙ ap (option_map (result_of g parts p v)) walks.is_walked;
           answers = end_answers n v walks.walked
-              (agree_part (handed_out g.sorts parts p v) (handed_in g.sorts parts p v ++ flat_map (makes g.sorts parts p) seg) walks.walked.held m (sound.gives v first last) walks.agrees);
+              (agree_part (values_of_visit g.sorts parts false p.left 0 v) (handed_in g.sorts parts p v ++ flat_map (makes g.sorts parts p) seg) walks.walked.held m (sound.gives v first last) walks.agrees)
+              (λ u. agree_part (items_between g.sorts parts p v u) (handed_in g.sorts parts p v ++ flat_map (makes g.sorts parts p) seg) walks.walked.held m (sound.runs.hands_on v u first last) walks.agrees);
         }
 
 -- the same attributes of a sort, and the same bindings
