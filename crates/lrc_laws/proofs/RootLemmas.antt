@@ -26,8 +26,8 @@ use Rattle.lrc_laws.proofs.NodeLemmas.{Face, asked, Serves, ServesOne}
 use Rattle.lrc_laws.proofs.PartLemmas.{left_kind, bare_of_kind, fits_of_kind, attributes_count}
 use Rattle.lrc_laws.proofs.DecoratedLemmas.{AreSound, face_of, serves, sort_same}
 use Rattle.lrc_laws.proofs.UniqueLemmas.{unique}
-use Rattle.lrc_laws.proofs.BackLemmas.{plain_whole}
-use Rattle.lrc_laws.proofs.TreeLemmas.{build}
+use Rattle.lrc_laws.proofs.BackLemmas.{IsWhole, plain_whole}
+use Rattle.lrc_laws.proofs.TreeLemmas.{TreeBuilt, build}
 use Rattle.lrc_laws.proofs.PartitionLemmas.{each_some, each_visited, start_there, start_plain, start_visits}
 
 filter_none : (test : ℕ → Bool) (a n : ℕ) → ((i : ℕ) → a ≤ i → i < a + n → test i ≡ false) → filter test (range_with_len a n) ≡ []
@@ -132,40 +132,65 @@ module _ (g : Grammar) (found : Partitions) (plan : HasSoundPlan g found) where
             ∙ sym a.values;
       }
 
+  module _ (limit : ℕ) (t : Tree) (h : IsTrue (fits g.prods t (k.Sort g.start))) (r : Result) (is : plain_visit g found.sorts limit (root_call t) ≡ Some r) where
+    -- what the result shows
+    abbrev root_face : Face
+    root_face = record { attr = λ x. slice_index_or r.synthesised x no_tree; bound = λ u w. no_data }
+
+    root_whole : IsWhole g found.sorts g.start 1 r
+    root_whole = plain_whole g found.sorts limit (root_call t) g.start r (fits_of_kind g.prods t (k.Sort g.start) h) is
+
+    root_count : length r.synthesised ≡ length start_attrs
+    root_count = root_whole.values ∙ ap (length {A = ℕ}) all_given ∙ length-range_with_len 0 (length start_attrs)
+
+    root_shows : r.synthesised ≡ map root_face.attr (range_with_len 0 (length start_attrs))
+    root_shows = fill_by_all root_face.attr r.synthesised (length start_attrs) no_tree root_count (λ x less. refl)
+
+    none_later : visits_of found.sorts g.start - 1 ≡ 0
+    none_later = let single = one in omega (arith, single)
+
+    no_bindings : r.bindings ≡ []
+    no_bindings = nil_from_length r.bindings (root_whole.bindings ∙ length-range_with_len 2 (visits_of found.sorts g.start - 1) ∙ none_later)
+
+    root_served : ServesOne g found.sorts (plain_visit g found.sorts limit) root_face g.start t 1
+    root_served = record {
+      result = r;
+      is_result = ap (plain_visit g found.sorts limit) (root_asked root_face t) ∙ is;
+      answers = record {
+        synthesised = root_shows ∙ ap (map root_face.attr) (sym all_given);
+        bindings = no_bindings ∙ ap (λ n. map (λ w. root_face.bound 1 w) (range_with_len 2 n)) (sym none_later);
+      };
+    }
+
+    root_serves : Serves g found.sorts (plain_visit g found.sorts limit) root_face g.start t
+    root_serves v low high =
+        let single = one in
+        let at : 1 ≡ v = omega (arith, single) in
+        subst (λ w. ServesOne g found.sorts (plain_visit g found.sorts limit) root_face g.start t w) at root_served
+
+    root_built : TreeBuilt g limit root_face g.start t
+    root_built =
+        build g found.sorts plan.formed sound (each_visited g found plan.partitions) (each_some g found plan.partitions) limit root_face g.start t
+        (start_there g found plan.partitions plan.formed plan.given) root_serves (fits_of_kind g.prods t (k.Sort g.start) h)
+
+    built_values : attributes_of root_built.decorated ≡ r.synthesised
+    built_values = root_built.attrs ∙ sym root_shows
+
+    built_synthesised : synthesised start_attrs (attributes_of root_built.decorated) ≡ r.synthesised
+    built_synthesised =
+        synthesised_all start_attrs (attributes_of root_built.decorated) (ap (length {A = Tree}) built_values ∙ root_count) (start_plain g found plan.partitions plan.formed plan.given) ∙ built_values
+
+    result_attributes : Attributes g limit t r.synthesised
+    result_attributes = record {
+      attribution = root_built.decorated;
+      is_attribution = record { is_bare = root_built.is_bare; is_right = root_built.right };
+      within = root_built.low;
+      values = sym built_synthesised;
+    }
+
   -- what the root's visit gives are the attributes within its fuel
   pub given_attributes : (limit : ℕ) (t : Tree) (vs : List Tree) → IsTrue (fits g.prods t (k.Sort g.start)) → RootGives g found limit t vs → Attributes g limit t vs
-  given_attributes limit t vs h gives =
-      let r = gives.result in
-      let kind = fits_of_kind g.prods t (k.Sort g.start) h in
-      let whole = plain_whole g found.sorts limit (root_call t) g.start r kind gives.is_result in
-      let f : Face = record { attr = λ x. slice_index_or r.synthesised x no_tree; bound = λ u w. no_data } in
-      let count : length r.synthesised ≡ length start_attrs = whole.values ∙ ap (length {A = ℕ}) all_given ∙ length-range_with_len 0 (length start_attrs) in
-      let own : r.synthesised ≡ map f.attr (range_with_len 0 (length start_attrs)) =
-      fill_by_all f.attr r.synthesised (length start_attrs) no_tree count (λ x less. refl) in
-      let last : visits_of found.sorts g.start - 1 ≡ 0 = let single = one in omega (arith, single) in
-      let none : r.bindings ≡ [] =
-      nil_from_length r.bindings (whole.bindings ∙ length-range_with_len 2 (visits_of found.sorts g.start - 1) ∙ last) in
-      let first : ServesOne g found.sorts (plain_visit g found.sorts limit) f g.start t 1 = record {
-        result = r;
-        is_result = ap (plain_visit g found.sorts limit) (root_asked f t) ∙ gives.is_result;
-        answers = record {
-          synthesised = own ∙ ap (map f.attr) (sym all_given);
-          bindings = none ∙ ap (λ n. map (λ w. f.bound 1 w) (range_with_len 2 n)) (sym last);
-        };
-      } in
-      let serves_all : Serves g found.sorts (plain_visit g found.sorts limit) f g.start t =
-      λ v low high. let single = one in let at : 1 ≡ v = omega (arith, single) in subst (λ w. ServesOne g found.sorts (plain_visit g found.sorts limit) f g.start t w) at first in
-      let tree = build g found.sorts plan.formed sound (each_visited g found plan.partitions) (each_some g found plan.partitions) limit f g.start t
-      (start_there g found plan.partitions plan.formed plan.given) serves_all kind in
-      let values : attributes_of tree.decorated ≡ r.synthesised = tree.attrs ∙ sym own in
-      record {
-        attribution = tree.decorated;
-        is_attribution = record { is_bare = tree.is_bare; is_right = tree.right };
-        within = tree.low;
-        values =
-            sym gives.values ∙ sym values
-            ∙ sym (synthesised_all start_attrs (attributes_of tree.decorated) (ap (length {A = Tree}) values ∙ count) (start_plain g found plan.partitions plan.formed plan.given));
-      }
+  given_attributes limit t vs h gives = subst (Attributes g limit t) gives.values (result_attributes limit t h gives.result gives.is_result)
 
   -- the root's visit is as high as the attribution
   pub root_height : (fuel : ℕ) (t : Tree) (d : Decorated) (r : Result) → IsTrue (fits g.prods t (k.Sort g.start)) → IsAttribution g t d → plain_visit g found.sorts fuel (root_call t) ≡ Some r
