@@ -73,7 +73,7 @@ module _ (g : Grammar) (parts : List Partition) where
       let found = mapped given_by (visit (call_of g parts p kids m s v)) r inside.1 in
       subst (λ (q : Given). q.height ≤ n) found.2 (h _ found.0 found.1)
 
-  step_same : (n : ℕ) (one other : Call → Option Result) → ((c : Call) (r : Result) → one c ≡ Some r → r.height ≤ n → other c ≡ Some r)
+  pub step_same : (n : ℕ) (one other : Call → Option Result) → ((c : Call) (r : Result) → one c ≡ Some r → r.height ≤ n → other c ≡ Some r)
       → (p : Production) (kids : Trees) (m : Held) (x : Action) (r : Given) → step g parts one p kids m x ≡ Some r → r.height ≤ n → step g parts other p kids m x ≡ Some r
   step_same n one other h p kids m (a.Eval o) r e le = e
   step_same n one other h p kids m (a.Visit s v) r e le =

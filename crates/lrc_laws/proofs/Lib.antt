@@ -19,3 +19,4 @@ pub mod EndlessLemmas
 pub mod MetLemmas
 pub mod DemandLemmas
 pub mod ReachLemmas
+pub mod SameReachLemmas

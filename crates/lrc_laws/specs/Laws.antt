@@ -21,6 +21,11 @@ abbrev pub LessFuelGivesNone : Type 0
 LessFuelGivesNone = (g : Grammar) (parts : List Partition) (fuel other : ℕ) (c : Call) (r : Result) → plain_visit g parts fuel c ≡ Some r
     → other < r.height → plain_visit g parts other c ≡ None
 
+-- and from its height on each fuel meets the same
+abbrev pub MoreFuelMeetsTheSame : Type 0
+MoreFuelMeetsTheSame = (g : Grammar) (parts : List Partition) (fuel other : ℕ) (c : Call) (r : Result) → plain_visit g parts fuel c ≡ Some r
+    → r.height ≤ other → reach g parts fuel c ≡ reach g parts other c
+
 -- A well-formed grammar with its partitions, whose visit sequences are sound for each production.
 pub record HasSoundPlan (g : Grammar) (found : Partitions) : Type 0 where
   pub formed : IsTrue (is_well_formed g)

@@ -1,4 +1,5 @@
 use Rattle.lrc_laws.proofs.FuelLemmas.{visit_bounded, visit_same, none_below}
+use Rattle.lrc_laws.proofs.SameReachLemmas.{reach_same}
 use Rattle.lrc_laws.proofs.fuel.height_is_least_fuel.Goals as goal
 
 pub returns-clause-more : goal.returns-clause-more
@@ -7,3 +8,6 @@ returns-clause-more c g parts fuel call r e =
 
 pub returns-clause-less : goal.returns-clause-less
 returns-clause-less c g parts fuel other call r e less = none_below g parts fuel other call r e less
+
+pub returns-clause-reach : goal.returns-clause-reach
+returns-clause-reach c g parts fuel other call r e le = reach_same g parts fuel other call r e le
