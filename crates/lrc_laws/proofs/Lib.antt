@@ -20,3 +20,4 @@ pub mod MetLemmas
 pub mod DemandLemmas
 pub mod ReachLemmas
 pub mod SameReachLemmas
+pub mod OnceLemmas
