@@ -21,3 +21,4 @@ pub mod DemandLemmas
 pub mod ReachLemmas
 pub mod SameReachLemmas
 pub mod OnceLemmas
+pub mod ApartLemmas
