@@ -11,3 +11,6 @@ pub mod BindingLemmas
 pub mod FewLemmas
 pub mod ReadLemmas
 pub mod ListedLemmas
+pub mod OccurrenceLemmas
+pub mod EndLemmas
+pub mod TurnLemmas
