@@ -14,3 +14,5 @@ pub mod ListedLemmas
 pub mod OccurrenceLemmas
 pub mod EndLemmas
 pub mod TurnLemmas
+pub mod DecidedLemmas
+pub mod TraceLemmas
