@@ -16,3 +16,4 @@ pub mod EndLemmas
 pub mod TurnLemmas
 pub mod DecidedLemmas
 pub mod TraceLemmas
+pub mod BackLemmas

@@ -73,13 +73,13 @@ module _ (sorts : List Sort) (parts : List Partition) where
       record { number = at.0; attr = attr.0; is_attr = attr.1; direction = attr.2; visit = eqb-true (visit_of parts s at.0) v both.1; is = at.2 }
 
   module _ (p : Production) (t : State) (kept : IsKept sorts parts p t) (ended : AllDone sorts parts p t) where
-    abbrev Absent : Bound → Type 0
+    abbrev pub Absent : Bound → Type 0
     Absent y = is_among t.available y ≡ false
 
-    not_absent : (y : Bound) → Contains t.available y → ¬ Absent y
+    pub not_absent : (y : Bound) → Contains t.available y → ¬ Absent y
     not_absent y m h = true≢false (sym (among t.available y m) ∙ h)
 
-    abbrev symbols : List Place
+    abbrev pub symbols : List Place
     symbols = symbols_of sorts p
 
     visit_there : (s j : ℕ) → s < length symbols → 1 ≤ j → j ≤ visits_of parts (symbol_at sorts p s).sort → Contains (actions_of sorts parts p) (a.Visit s j)

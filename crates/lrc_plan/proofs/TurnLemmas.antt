@@ -29,7 +29,7 @@ even_over (suc k) =
     not_false false e = sym e
 
 module _ (g : Grammar) (found : Partitions) (are : ArePartitions g found) (there : All (IsGivenThere g.sorts) found.given) (s : ℕ) (known : s < length g.sorts) where
-  abbrev part : Partition
+  abbrev pub part : Partition
   part = (partition_of g found are there s known).0
 
   abbrev partition : IsPartition g found.given s part
