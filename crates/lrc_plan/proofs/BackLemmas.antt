@@ -1,9 +1,11 @@
 -- In an ordered grammar each visit gives all its synthesised attributes.
-use Rattle.std.proofs.Common.{◌≡◌, ℕ, zero, suc, ◌+◌, ◌-◌, ◌*◌, ◌/◌, ◌%◌, ◌<◌, ◌≤◌, Bool, true, false, not, IsTrue, List, [], ◌∷◌, ◌++◌, length, map, get_or, slice_get, slice_index, All, Contains, Option, Some, None, ◌⊎◌, inl, inr, refl, sym, ap, ◌∙◌, subst, arith}
+use Rattle.std.proofs.Common.{◌≡◌, ℕ, zero, suc, ◌+◌, ◌-◌, ◌*◌, ◌/◌, ◌%◌, ◌<◌, ◌≤◌, Bool, true, false, not, ◌||◌, IsTrue, List, [], ◌∷◌, ◌++◌, length, map, get_or, slice_get, slice_index, All, Contains, Option, Some, None, ◌⊎◌, inl, inr, refl, sym, ap, ◌∙◌, subst, arith}
 use Rattle.std.specs.Prelude.{flat_map}
 use Rattle.std.specs.Option.{option_map_or}
-use Rattle.std.specs.List.{range_with_len}
-use Rattle.std.proofs.lemmas.Bool.{cases_lt, true≢false}
+use Rattle.std.specs.List.{range_with_len, list_any, IsDistinct, AllByRecursion}
+use Rattle.std.proofs.lemmas.Bool.{cases_lt, true≢false, ne_eqb, eqb-true}
+use Rattle.std.proofs.Math.Dec.{eqb}
+use Rattle.std.proofs.lemmas.Map.Steps.{length-le_from_distinct_below}
 use Rattle.std.proofs.lemmas.Option.{same_Some, slice_get_within}
 use Rattle.std.proofs.lemmas.List.Elements.{All-contains, Contains-append_left, Contains-append_right}
 use Rattle.lrc_base.specs.declared.grammar.Attr.{Attr}
@@ -26,6 +28,7 @@ use Rattle.lrc_sequence.specs.declared.Bound.{Bound}
 use Rattle.lrc_sequence.specs.declared.Bound.TheVariants as b
 use Rattle.lrc_sequence.specs.Items.{is_among, visits_of, visit_of, values_of_visit, given_back, extended_of, symbol_at}
 use Rattle.lrc_sequence.specs.Sequences.{State, is_defined}
+use Rattle.lrc_sequence.proofs.ItemLemmas.{contained}
 use Rattle.lrc_sequence.proofs.ExtendedLemmas.{partition_of, read_extended}
 use Rattle.lrc_sequence.proofs.MemberLemmas.{in_head, in_tail, in_map, in_flat, in_row, same_item}
 use Rattle.lrc_plan.proofs.WaitingLemmas.{defined_at}
@@ -35,6 +38,26 @@ use Rattle.lrc_plan.proofs.EndLemmas.{IsKept, AllDone}
 use Rattle.lrc_plan.proofs.TurnLemmas.{HasVisit, has_visit, part}
 use Rattle.lrc_plan.proofs.DecidedLemmas.{as_table}
 use Rattle.lrc_plan.proofs.TraceLemmas.{in_values, Blocks, visit_blocked, still_visit, still_eval, not_absent}
+
+-- numbers of which no two are equal, and one more
+differ : (q : ℕ) (xs : List ℕ) → ((y : ℕ) → Contains xs y → q ≡ y → ⊥) → AllByRecursion (λ y. eqb q y ≡ false) xs
+differ q [] other = tt
+differ q (x ∷ xs) other = (ne_eqb q x (other x (in_head x xs)), differ q xs (λ y m. other y (in_tail x y xs m)))
+
+distinct_more : (q : ℕ) (xs : List ℕ) → ((y : ℕ) → Contains xs y → q ≡ y → ⊥) → IsDistinct eqb xs → IsDistinct eqb (q ∷ xs)
+unfolding IsDistinct
+distinct_more q xs other distinct = (differ q xs other, distinct)
+
+within_over : (n q r : ℕ) (c : Bool) (xs : List ℕ) → eqb r q ≡ c → q < n → (c || list_any (eqb r) xs) ≡ true → (list_any (eqb r) xs ≡ true → r < n) → r < n
+within_over n q r true xs e less h rest = let same = eqb-true r q e in omega arith
+within_over n q r false xs e less h rest = rest h
+
+within_more : {n : ℕ} (q : ℕ) (xs : List ℕ) → q < n → ((r : ℕ) → list_any (eqb r) xs ≡ true → r < n) → (r : ℕ) → list_any (eqb r) (q ∷ xs) ≡ true → r < n
+within_more {n} q xs less within r h = within_over n q r (eqb r q) xs refl less h (within r)
+
+not_refuted : (c : Bool) → (c ≡ false → ⊥) → c ≡ true
+not_refuted true refuted = refl
+not_refuted false refuted = absurd (refuted refl)
 
 module _ (g : Grammar) (found : Partitions) (are : ArePartitions g found) (there : All (IsGivenThere g.sorts) found.given) where
   abbrev parts : List Partition
@@ -187,3 +210,45 @@ module _ (g : Grammar) (found : Partitions) (are : ArePartitions g found) (there
                 by_direction o s x.0 h.attr h.number h.attr.inherited refl less defined (sym x.1 ∙ h.is) s_there
                 (h.stands ∙ ap (λ (q : Place). q.start + h.number) (sym e)) (ap (λ (q : Place). slice_get (attrs_of_sort g.sorts q.sort) h.number) e ∙ h.is_attr) absent back
           ]
+
+      module _ (acyclic : IsAcyclic Later) where
+        all_later : (q o : ℕ) (stack : List ℕ) → Later q o → All (Later o) stack → All (Later q) (o ∷ stack)
+        all_later q o stack path above zero d less = path
+        all_later q o stack path above (suc k) d less = joined (Extended g found.given p) q o (get_or stack k d) path (above k d (omega arith))
+
+        -- the occurrence, and those that it leads to: no more than there are
+        trace : (n o target : ℕ) (stack : List ℕ) → o < total → Absent o → All (Later o) stack → IsDistinct eqb (o ∷ stack) → ((q : ℕ) → list_any (eqb q) (o ∷ stack) ≡ true → q < total)
+            → total ≤ length stack + n → (o ≡ target) ⊎ Later o target → ((q : ℕ) → IsLate q → (q ≡ target) ⊎ Later q target → ⊥) → ⊥
+        trace zero o target stack less absent above distinct within enough reach late =
+            let few = length-le_from_distinct_below (o ∷ stack) total distinct within in omega arith
+        trace (suc n) o target stack less absent above distinct within enough reach late =
+            step_back o less absent
+            (λ q q_less q_absent path.
+            let later_all : All (Later q) (o ∷ stack) = all_later q o stack path above in
+            trace n q target (o ∷ stack) q_less q_absent later_all
+            (distinct_more q (o ∷ stack) (λ y m e. acyclic q (subst (Later q) (sym e) (All-contains (Later q) (o ∷ stack) y later_all m))) distinct)
+            (within_more q (o ∷ stack) q_less within) (omega arith)
+            (elim reach [ inl e ↦ inr (subst (Later q) e path) | inr on ↦ inr (joined (Extended g found.given p) q o target path on) ]) late)
+            (λ is_late. late o is_late reach)
+
+        -- a synthesised attribute of the left side is there at the end of its visit
+        pub given_at_end : (o : ℕ) (attr : Attr) → slice_get (attrs_of_sort g.sorts p.left) o ≡ Some attr → attr.inherited ≡ false → visit_of parts p.left o ≡ v → Contains t.available (b.Value o)
+        unfolding IsDistinct
+        given_at_end o attr is_attr synthesised visit =
+            let within = places_within g.sorts p 0 (left_place p) (omega arith) in
+            let small = slice_get_within (attrs_of_sort g.sorts p.left) o attr is_attr in
+            let less : o < total = omega arith in
+            contained t.available (b.Value o)
+            (not_refuted (is_among t.available (b.Value o))
+            (λ absent.
+            trace total o o [] less absent (λ k d l. absurd (omega arith)) (tt, tt) (within_more o [] less (λ q m. absurd (true≢false (sym m)))) (omega arith) (inl refl)
+            (λ q is_late reach.
+            before_inherited p.left left_known o q attr is_late.attr is_attr is_late.is_attr synthesised is_late.inherited (let later = is_late.later in omega arith)
+            (λ path.
+            let zero_o : 0 + o ≡ o = omega arith in
+            let zero_q : 0 + q ≡ q = omega arith in
+            let on : Later o q = subst (λ k. Later k q) zero_o (subst (λ k. Later (0 + o) k) zero_q (lifted (left_place p) (0, omega arith, refl) o q path)) in
+            elim reach [
+              | inl e ↦ acyclic o (subst (Later o) e on)
+              | inr back ↦ acyclic o (joined (Extended g found.given p) o q o on back)
+            ]))))

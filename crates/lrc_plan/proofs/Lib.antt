@@ -17,3 +17,4 @@ pub mod TurnLemmas
 pub mod DecidedLemmas
 pub mod TraceLemmas
 pub mod BackLemmas
+pub mod GivesLemmas
