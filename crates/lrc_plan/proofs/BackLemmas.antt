@@ -1,6 +1,6 @@
 -- In an ordered grammar each visit gives all its synthesised attributes.
-use Rattle.std.proofs.Common.{◌≡◌, ℕ, zero, suc, ◌+◌, ◌-◌, ◌*◌, ◌/◌, ◌%◌, ◌<◌, ◌≤◌, Bool, true, false, not, ◌||◌, IsTrue, List, [], ◌∷◌, ◌++◌, length, map, get_or, slice_get, slice_index, All, Contains, Option, Some, None, ◌⊎◌, inl, inr, refl, sym, ap, ◌∙◌, subst, arith}
-use Rattle.std.specs.Prelude.{flat_map}
+use Rattle.std.proofs.Common.{◌≡◌, ℕ, zero, suc, ◌+◌, ◌-◌, ◌*◌, ◌/◌, ◌%◌, ◌<◌, ◌≤◌, Bool, true, false, not, ◌||◌, ◌==◌, IsTrue, List, [], ◌∷◌, ◌++◌, length, map, get_or, slice_get, slice_index, All, Contains, Option, Some, None, ◌⊎◌, inl, inr, refl, sym, ap, ◌∙◌, subst, arith}
+use Rattle.std.specs.Prelude.{filter, flat_map}
 use Rattle.std.specs.Option.{option_map_or}
 use Rattle.std.specs.List.{range_with_len, list_any, IsDistinct, AllByRecursion}
 use Rattle.std.proofs.lemmas.Bool.{cases_lt, true≢false, ne_eqb, eqb-true}
@@ -24,20 +24,21 @@ use Rattle.lrc_order.proofs.TurnLemmas.{sets_in_turn}
 use Rattle.lrc_ordered.proofs.PlaceLemmas.{IsWithin, places_within}
 use Rattle.lrc_ordered.proofs.RangeLemmas.{IsPlaced, places_placed, IsNeedWithin}
 use Rattle.lrc_ordered.proofs.BridgeLemmas.{item_at}
+use Rattle.lrc_sequence.specs.declared.Action.TheVariants as a
 use Rattle.lrc_sequence.specs.declared.Bound.{Bound}
 use Rattle.lrc_sequence.specs.declared.Bound.TheVariants as b
 use Rattle.lrc_sequence.specs.Items.{is_among, visits_of, visit_of, values_of_visit, given_back, extended_of, symbol_at}
 use Rattle.lrc_sequence.specs.Sequences.{State, is_defined}
 use Rattle.lrc_sequence.proofs.ItemLemmas.{contained}
 use Rattle.lrc_sequence.proofs.ExtendedLemmas.{partition_of, read_extended}
-use Rattle.lrc_sequence.proofs.MemberLemmas.{in_head, in_tail, in_map, in_flat, in_row, same_item}
+use Rattle.lrc_sequence.proofs.MemberLemmas.{from_map, from_filter, in_head, in_tail, in_map, in_flat, in_row, same_item}
 use Rattle.lrc_plan.proofs.WaitingLemmas.{defined_at}
 use Rattle.lrc_plan.proofs.OccurrenceLemmas.{OfPlace, OfLeft, stands_at}
 use Rattle.lrc_plan.proofs.InLemmas.{extended_within}
 use Rattle.lrc_plan.proofs.EndLemmas.{IsKept, AllDone}
 use Rattle.lrc_plan.proofs.TurnLemmas.{HasVisit, has_visit, part}
 use Rattle.lrc_plan.proofs.DecidedLemmas.{as_table}
-use Rattle.lrc_plan.proofs.TraceLemmas.{in_values, Blocks, visit_blocked, still_visit, still_eval, not_absent}
+use Rattle.lrc_plan.proofs.TraceLemmas.{awaits_absent, in_values, Blocks, visit_blocked, still_visit, still_eval, not_absent}
 
 -- numbers of which no two are equal, and one more
 differ : (q : ℕ) (xs : List ℕ) → ((y : ℕ) → Contains xs y → q ≡ y → ⊥) → AllByRecursion (λ y. eqb q y ≡ false) xs
@@ -67,7 +68,7 @@ module _ (g : Grammar) (found : Partitions) (are : ArePartitions g found) (there
     visit_read : (x : ℕ) → visit_of parts s x ≡ slice_index (part g found are there s known).visit_of x
     visit_read x = ap (λ o. option_map_or (λ (q : Partition). slice_index q.visit_of x) o 0) (partition_of g found are there s known).1
 
-    visits_read : visits_of parts s ≡ (part g found are there s known).visits
+    pub visits_read : visits_of parts s ≡ (part g found are there s known).visits
     visits_read = ap (λ o. option_map_or (λ (q : Partition). q.visits) o 0) (partition_of g found are there s known).1
 
     -- what is inherited in a visit comes before what is synthesised in it or later, and that before what is inherited later
@@ -111,7 +112,7 @@ module _ (g : Grammar) (found : Partitions) (are : ArePartitions g found) (there
     known_sorts : All (λ (place : Place). place.sort < length g.sorts) (places_of g.sorts p)
     known_sorts k d less = (places_placed g.sorts g.prods p right k d less).sort_there
 
-    left_known : p.left < length g.sorts
+    pub left_known : p.left < length g.sorts
     left_known = known_sorts 0 (left_place p) (omega arith)
 
     module _ (t : State) (kept : IsKept g.sorts parts p t) (ended : AllDone g.sorts parts p t) (v : ℕ)
@@ -252,3 +253,40 @@ module _ (g : Grammar) (found : Partitions) (are : ArePartitions g found) (there
               | inl e ↦ acyclic o (subst (Later o) e on)
               | inr back ↦ acyclic o (joined (Extended g found.given p) o q o on back)
             ]))))
+
+        -- at the end of the last visit nothing is absent
+        pub none_absent : visits_of parts p.left ≤ v → (o : ℕ) → o < total → Absent o → ⊥
+        unfolding IsDistinct
+        none_absent last o less absent =
+            trace total o o [] less absent (λ k d l. absurd (omega arith)) (tt, tt) (within_more o [] less (λ q m. absurd (true≢false (sym m)))) (omega arith) (inl refl)
+            (λ q is_late reach.
+            let has = has_visit g found are there p.left left_known q is_late.attr is_late.is_attr (slice_get_within (attrs_of_sort g.sorts p.left) q is_late.attr is_late.is_attr) in
+            let last_visit = has.last in
+            let read = visit_read p.left left_known q in
+            let count = visits_read p.left left_known in
+            let later = is_late.later in
+            absurd (omega arith))
+
+        pub no_eval_left : visits_of parts p.left ≤ v → (o : ℕ) → Contains t.left (a.Eval o) → ⊥
+        no_eval_left last o left =
+            let y = awaits_absent g.sorts parts p t kept ended (a.Eval o) left in
+            let n = from_map (λ (m : Need). b.Value m.first) (filter (λ (m : Need). m.then == o) (extended_of g.sorts parts p)) y.0 y.1 in
+            let passes = from_filter (λ (m : Need). m.then == o) (extended_of g.sorts parts p) n.0 n.1 in
+            let within = All-contains (IsNeedWithin total) (extended_of g.sorts parts p) n.0 (extended_within g.sorts parts g.prods p right) passes.0 in
+            none_absent last n.0.first within.0 (subst (λ z. is_among t.available z ≡ false) (sym n.2) y.2)
+
+        pub no_visit_left : visits_of parts p.left ≤ v → (s j : ℕ) → s < length (symbols_of g.sorts p) → 1 ≤ j → j ≤ visits_of parts (symbol_at g.sorts p s).sort → Contains t.left (a.Visit s j) → ⊥
+        no_visit_left last s j s_there one le left =
+            let place = symbol_at g.sorts p s in
+            let placed = places_placed g.sorts g.prods p right (suc s) (left_place p) (omega arith) in
+            let within = places_within g.sorts p (suc s) (left_place p) (omega arith) in
+            let block = visit_blocked g.sorts parts p t kept ended s j s_there one le left in
+            elim block.1.why [
+              | inl tree ↦
+                  let before = placed.tree_before block.0 tree in
+                  none_absent last block.0 (omega arith) block.1.absent
+              | inr w ↦
+                  let small = slice_get_within (attrs_of_sort g.sorts place.sort) w.0 w.1 w.3 in
+                  let e = w.2 in
+                  none_absent last block.0 (omega arith) block.1.absent
+            ]

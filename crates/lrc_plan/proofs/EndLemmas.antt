@@ -90,6 +90,25 @@ module _ (sorts : List Sort) (parts : List Partition) (p : Production) where
             ];
       }
 
+  -- what was left is left, or was done
+  pub record IsMoved (L : List Action) (s : State) : Type 0 where
+    pub moved : (x : Action) → Contains L x → Contains s.left x ⊎ Contains s.done x
+
+  pub moves_on : (L : List Action) (s : State) (found : Action × List Action) → pick (is_ready sorts parts p s.available) s.left ≡ Some found → IsMoved L s → IsMoved L (did sorts parts p s found)
+  moves_on L s found e h =
+      let picked : PickedOf s.left (Some found) = subst (PickedOf s.left) e (picked_of (is_ready sorts parts p s.available) s.left) in
+      record {
+        moved = λ x m.
+            elim (h.moved x m) [
+              | inr done ↦ inr (Contains-append_left s.done (found.0 ∷ []) x done)
+              | inl left ↦
+                  elim (picked.0 x left) [
+                    | inl same ↦ inr (Contains-append_right s.done (found.0 ∷ []) x (subst (λ z. Contains (found.0 ∷ []) z) (sym same) (in_head found.0 [])))
+                    | inr other ↦ inl other
+                  ]
+            ];
+      }
+
   -- at the end no action that is left is ready
   abbrev pub AllDone : State → Type 0
   AllDone s = All (λ x. is_ready sorts parts p s.available x ≡ false) s.left

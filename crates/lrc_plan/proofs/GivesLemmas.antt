@@ -26,24 +26,30 @@ use Rattle.lrc_sequence.proofs.MemberLemmas.{same_item, in_flat, in_filter, in_r
 use Rattle.lrc_sequence.proofs.ReadyLemmas.{RunsFrom, runs_on, IsEarlier, made_by, entering, count, segment_at}
 use Rattle.lrc_plan.proofs.ListedLemmas.{value_listed}
 use Rattle.lrc_plan.proofs.InLemmas.{production_is_right}
-use Rattle.lrc_plan.proofs.EndLemmas.{IsKept, kept_on, AllDone, ends, stays}
+use Rattle.lrc_plan.proofs.EndLemmas.{IsKept, kept_on, IsMoved, moves_on, AllDone, ends, stays}
 use Rattle.lrc_plan.proofs.TraceLemmas.{FromValues, from_values}
 use Rattle.lrc_plan.proofs.BackLemmas.{given_at_end}
 
 module _ (sorts : List Sort) (parts : List Partition) (p : Production) where
+  -- it was done in an earlier visit
+  abbrev pub DoneBefore : ℕ → Action → Type 0
+  DoneBefore v x = (u : ℕ) × (1 ≤ u) × (u < v) × Contains (segment sorts parts p u) x
+
   -- the state at the end of a segment
   pub record EndsAt (w : ℕ) : Type 0 where
     pub state : State
     pub kept : IsKept sorts parts p state
     pub ended : AllDone sorts parts p state
     pub taken : (u : ℕ) → 1 ≤ u → u ≤ w → All (Contains state.available) (entering sorts parts p u)
+    pub left_or_done : (x : Action) → Contains (actions_of sorts parts p) x → Contains state.left x ⊎ DoneBefore (w + 1) x
     pub from : (y : Bound) → Contains state.available y → Contains (entering sorts parts p w ++ made_by sorts parts p (segment sorts parts p w)) y ⊎ IsEarlier sorts parts p w y
 
   pub ends_at : (n v : ℕ) (s : State) (pre : List (List Action)) → segments_of sorts parts p ≡ pre ++ segments_from sorts parts p n v s → length pre + 1 ≡ v
       → ((y : Bound) → Contains s.available y → IsEarlier sorts parts p v y) → IsKept sorts parts p s
-      → ((u : ℕ) → 1 ≤ u → u < v → All (Contains s.available) (entering sorts parts p u)) → (w : ℕ) → v ≤ w → w < v + n → EndsAt w
-  ends_at zero v s pre are size earlier kept taken w low high = absurd (omega arith)
-  ends_at (suc n) v s pre are size earlier kept taken w low high =
+      → ((u : ℕ) → 1 ≤ u → u < v → All (Contains s.available) (entering sorts parts p u))
+      → ((x : Action) → Contains (actions_of sorts parts p) x → Contains s.left x ⊎ DoneBefore v x) → (w : ℕ) → v ≤ w → w < v + n → EndsAt w
+  ends_at zero v s pre are size earlier kept taken before w low high = absurd (omega arith)
+  ends_at (suc n) v s pre are size earlier kept taken before w low high =
       let E = entering sorts parts p v in
       let A = s.available ++ E in
       let s1 = entered sorts parts p v s in
@@ -67,6 +73,17 @@ module _ (sorts : List Sort) (parts : List Partition) (p : Production) where
             | inl e ↦ λ k d less. Contains-append_right s.available E (get_or (entering sorts parts p u) k d) (subst (λ z. Contains (entering sorts parts p z) (get_or (entering sorts parts p u) k d)) e (k, less, same_item (entering sorts parts p u) k (get_or (entering sorts parts p u) k d) d less))
             | inr ne ↦ λ k d less. Contains-append_left s.available E (get_or (entering sorts parts p u) k d) (taken u one (omega arith) k d less)
           ]) in
+      let moved = greedy_keeps sorts parts p (IsMoved sorts parts p s.left) (moves_on sorts parts p s.left) (length s.left) s1 (record { moved = λ x m. inl m }) in
+      let done_t : (x : Action) → Contains (actions_of sorts parts p) x → Contains t.left x ⊎ DoneBefore (v + 1) x =
+      λ x m.
+          elim (before x m) [
+            | inr old ↦ let l = old.2 in inr (old.0, old.1, omega arith, old.3)
+            | inl left ↦
+                elim (moved.moved x left) [
+                  | inl still ↦ inl still
+                  | inr done ↦ inr (v, omega arith, omega arith, subst (λ xs. Contains xs x) (sym now) done)
+                ]
+          ] in
       let from_t : (y : Bound) → Contains t.available y → Contains (E ++ made_by sorts parts p (segment sorts parts p v)) y ⊎ IsEarlier sorts parts p v y =
       λ y m.
           elim (Contains-append_cases A (made_by sorts parts p t.done) y (subst (λ xs. Contains xs y) runs.available m)) [
@@ -80,7 +97,7 @@ module _ (sorts : List Sort) (parts : List Partition) (p : Production) where
       elim (cases_eq v w) [
         | inl e ↦
             subst EndsAt e
-            (record { state = t; kept = kept_t; ended = ended_t; taken = λ u one le. taken_t u one (omega arith); from = from_t })
+            (record { state = t; kept = kept_t; ended = ended_t; taken = λ u one le. taken_t u one (omega arith); left_or_done = done_t; from = from_t })
         | inr ne ↦
             let longer = length-append pre (t.done ∷ []) in
             ends_at n (v + 1) t (pre ++ t.done ∷ []) (are ∙ sym (append_assoc pre (t.done ∷ []) (segments_from sorts parts p n (v + 1) t))) (omega arith)
@@ -88,13 +105,13 @@ module _ (sorts : List Sort) (parts : List Partition) (p : Production) where
             elim (from_t y m) [
               | inl here ↦ record { visit = v; first = omega arith; before = omega arith; gained_there = here }
               | inr old ↦ let l = old.before in record { visit = old.visit; first = old.first; before = omega arith; gained_there = old.gained_there }
-            ]) kept_t taken_t w (omega arith) (omega arith)
+            ]) kept_t taken_t done_t w (omega arith) (omega arith)
       ]
 
   pub end_of : (w : ℕ) → 1 ≤ w → w ≤ visits_of parts p.left → EndsAt w
   end_of w one le =
       ends_at (visits_of parts p.left) 1 (record { done = []; left = actions_of sorts parts p; available = [] }) [] refl refl (λ y m. let l = m.1 in absurd (omega arith))
-      (record { kept = λ x m. inl m }) (λ u low less. absurd (omega arith)) w one (omega arith)
+      (record { kept = λ x m. inl m }) (λ u low less. absurd (omega arith)) (λ x m. inl m) w one (omega arith)
 
 module _ (g : Grammar) (well : IsTrue (is_well_formed g)) (found : Partitions) (are : ArePartitions g found) (there : All (IsGivenThere g.sorts) found.given)
     (p : Production) (in_grammar : Contains g.prods p) (acyclic : IsAcyclic (ExtendedPath g found.given p)) where

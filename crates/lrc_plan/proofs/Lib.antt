@@ -18,3 +18,4 @@ pub mod DecidedLemmas
 pub mod TraceLemmas
 pub mod BackLemmas
 pub mod GivesLemmas
+pub mod CompleteLemmas

@@ -82,21 +82,21 @@ module _ (sorts : List Sort) (parts : List Partition) where
     abbrev pub symbols : List Place
     symbols = symbols_of sorts p
 
-    visit_there : (s j : ℕ) → s < length symbols → 1 ≤ j → j ≤ visits_of parts (symbol_at sorts p s).sort → Contains (actions_of sorts parts p) (a.Visit s j)
+    pub visit_there : (s j : ℕ) → s < length symbols → 1 ≤ j → j ≤ visits_of parts (symbol_at sorts p s).sort → Contains (actions_of sorts parts p) (a.Visit s j)
     visit_there s j there one le =
         let n = visits_of parts (symbol_at sorts p s).sort in
         Contains-append_right (map a.Eval (filter (is_defined (occurrences_of sorts p)) (range_with_len 0 (length (occurrences_of sorts p))))) (flat_map (visits_at sorts parts p) (range_with_len 0 (length symbols))) (a.Visit s j)
         (in_flat (visits_at sorts parts p) (range_with_len 0 (length symbols)) s (a.Visit s j) (in_row 0 (length symbols) s (omega arith) (omega arith))
         (in_map (a.Visit s) (range_with_len 1 n) j (in_row 1 n j one (omega arith))))
 
-    eval_there : (o : ℕ) → o < length (occurrences_of sorts p) → is_defined (occurrences_of sorts p) o ≡ true → Contains (actions_of sorts parts p) (a.Eval o)
+    pub eval_there : (o : ℕ) → o < length (occurrences_of sorts p) → is_defined (occurrences_of sorts p) o ≡ true → Contains (actions_of sorts parts p) (a.Eval o)
     eval_there o less defined =
         Contains-append_left (map a.Eval (filter (is_defined (occurrences_of sorts p)) (range_with_len 0 (length (occurrences_of sorts p))))) (flat_map (visits_at sorts parts p) (range_with_len 0 (length symbols))) (a.Eval o)
         (in_map a.Eval (filter (is_defined (occurrences_of sorts p)) (range_with_len 0 (length (occurrences_of sorts p)))) o
         (in_filter (is_defined (occurrences_of sorts p)) (range_with_len 0 (length (occurrences_of sorts p))) o (in_row 0 (length (occurrences_of sorts p)) o (omega arith) (omega arith)) defined))
 
     -- why an action that is left is not ready
-    awaits_absent : (x : Action) → Contains t.left x → (y : Bound) × Contains (awaits sorts parts p x) y × Absent y
+    pub awaits_absent : (x : Action) → Contains t.left x → (y : Bound) × Contains (awaits sorts parts p x) y × Absent y
     awaits_absent x left = fails_at (is_among t.available) (awaits sorts parts p x) (All-contains (λ z. is_ready sorts parts p t.available z ≡ false) t.left x ended left)
 
     -- an occurrence that is absent keeps a visit back
