@@ -27,16 +27,16 @@ use Rattle.lrc_plan.proofs.PairLemmas.{all_front}
 use Rattle.lrc_plan.proofs.InLemmas.{in_range, values_in, production_is_right}
 
 module _ (sorts : List Sort) (parts : List Partition) (prods : List Production) (p : Production) (right : is_production_right sorts prods p ≡ true) where
-  abbrev total : ℕ
+  abbrev pub total : ℕ
   total = length (occurrences_of sorts p)
 
-  abbrev Listed : Bound → Type 0
+  abbrev pub Listed : Bound → Type 0
   Listed = Contains (items_of sorts parts p)
 
   abbrev visits_at_symbol : ℕ → ℕ
   visits_at_symbol s = visits_of parts (symbol_at sorts p s).sort
 
-  value_listed : (o : ℕ) → o < total → Listed (b.Value o)
+  pub value_listed : (o : ℕ) → o < total → Listed (b.Value o)
   value_listed o less =
       Contains-append_left (map b.Value (range_with_len 0 total)) (flat_map (λ s. bindings_at s (visits_at_symbol s)) (range_with_len 0 (length (symbols_of sorts p)))) (b.Value o)
       (in_map b.Value (range_with_len 0 total) o (in_row 0 total o (omega arith) (omega arith)))

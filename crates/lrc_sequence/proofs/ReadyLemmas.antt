@@ -31,7 +31,7 @@ all_contained available (x ∷ xs) h zero d less = contained available x (and_pa
 all_contained available (x ∷ xs) h (suc k) d less = all_contained available xs (and_parts (is_among available x) (list_all (is_among available) xs) h).1 k d (omega arith)
 
 -- the first that passes does
-abbrev Passes : (Action → Bool) → Option (Action × List Action) → Type 0
+abbrev pub Passes : (Action → Bool) → Option (Action × List Action) → Type 0
 Passes test None = Unit {0}
 Passes test (Some found) = test found.0 ≡ true
 
@@ -60,7 +60,7 @@ module _ (sorts : List Sort) (parts : List Partition) (p : Production) where
       firsts_front (Contains available) (flat_map equation_needs p.equations) (flat_map (tree_needs sorts) (places_of sorts p)) o
       (firsts_front (Contains available) (needs_of sorts p) (flat_map (ordered_at sorts parts) (places_of sorts p)) o all)
 
-  abbrev made_by : List Action → List Bound
+  abbrev pub made_by : List Action → List Bound
   made_by xs = flat_map (makes sorts parts p) xs
 
   made_more : (A : List Bound) (xs : List Action) (x : Action) → (A ++ made_by xs) ++ makes sorts parts p x ≡ A ++ made_by (xs ++ x ∷ [])
@@ -91,11 +91,11 @@ module _ (sorts : List Sort) (parts : List Partition) (p : Production) where
   )
 
   -- while a segment runs, what is available is what was at its start and what its actions made
-  record RunsFrom (A : List Bound) (s : State) : Type 0 where
-    available : s.available ≡ A ++ made_by s.done
-    ready : AreReady sorts parts p A s.done
+  pub record RunsFrom (A : List Bound) (s : State) : Type 0 where
+    pub available : s.available ≡ A ++ made_by s.done
+    pub ready : AreReady sorts parts p A s.done
 
-  runs_on : (A : List Bound) (s : State) (found : Action × List Action) → pick (is_ready sorts parts p s.available) s.left ≡ Some found → RunsFrom A s → RunsFrom A (did sorts parts p s found)
+  pub runs_on : (A : List Bound) (s : State) (found : Action × List Action) → pick (is_ready sorts parts p s.available) s.left ≡ Some found → RunsFrom A s → RunsFrom A (did sorts parts p s found)
   runs_on A s found e runs =
       let test : is_ready sorts parts p s.available found.0 ≡ true = subst (Passes (is_ready sorts parts p s.available)) e (picked_passes (is_ready sorts parts p s.available) s.left) in
       let needed = needs_awaited s.available found.0 (all_contained s.available (awaits sorts parts p found.0) test) in
@@ -104,20 +104,20 @@ module _ (sorts : List Sort) (parts : List Partition) (p : Production) where
         ready = ready_more A s.done found.0 runs.ready (subst (λ xs. All (Contains xs) (needs sorts parts p found.0)) runs.available needed);
       }
 
-  abbrev count : ℕ
+  abbrev pub count : ℕ
   count = visits_of parts p.left
 
-  abbrev entering : ℕ → List Bound
+  abbrev pub entering : ℕ → List Bound
   entering v = values_of_visit sorts parts true p.left 0 v
 
   -- it became available in an earlier visit
-  record IsEarlier (v : ℕ) (y : Bound) : Type 0 where
-    visit : ℕ
-    first : 1 ≤ visit
-    before : visit < v
-    gained_there : Contains (gained sorts parts p visit (segment sorts parts p visit)) y
+  pub record IsEarlier (v : ℕ) (y : Bound) : Type 0 where
+    pub visit : ℕ
+    pub first : 1 ≤ visit
+    pub before : visit < v
+    pub gained_there : Contains (gained sorts parts p visit (segment sorts parts p visit)) y
 
-  segment_at : (pre rest : List (List Action)) (now : List Action) (v : ℕ) → segments_of sorts parts p ≡ pre ++ now ∷ rest → length pre + 1 ≡ v → segment sorts parts p v ≡ now
+  pub segment_at : (pre rest : List (List Action)) (now : List Action) (v : ℕ) → segments_of sorts parts p ≡ pre ++ now ∷ rest → length pre + 1 ≡ v → segment sorts parts p v ≡ now
   segment_at pre rest now v are size =
       let e : v - 1 ≡ length pre = omega arith in
       ap (λ n. get_or (segments_of sorts parts p) n []) e ∙ ap (λ (xs : List (List Action)). get_or xs (length pre) []) are ∙ get_or-append_seam pre now rest []
