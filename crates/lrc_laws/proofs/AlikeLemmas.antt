@@ -100,7 +100,7 @@ module _ (g : Grammar) (parts : List Partition) (p : Production) where
 
     module _ (visited : AreVisited g parts) where
       eval_alike : (o : ℕ) → IsTrue (is_defined (occurrences_of g.sorts p) o) → m (b.Value o) ≡ n (b.Value o)
-      eval_alike o h = done_alike (a.Eval o) (b.Value o) ((sound.evaluates o).0 h) (member_first (b.Value o) [])
+      eval_alike o h = done_alike (a.Eval o) (b.Value o) ((sound.complete.evaluates o).0 h) (member_first (b.Value o) [])
 
       -- a synthesised attribute of a symbol
       symbol_alike : (s x : ℕ) (place : Place) (attr : Attr) → slice_get (symbols_of g.sorts p) s ≡ Some place → slice_get (attrs_of_sort g.sorts place.sort) x ≡ Some attr → attr.inherited ≡ false
@@ -115,7 +115,7 @@ module _ (g : Grammar) (parts : List Partition) (p : Production) where
             last = subst (λ (pl : Place). v ≤ visits_of parts pl.sort) (sym at) bounds.1;
           } in
           let member = member_map (λ y. b.Value (place.start + y)) (attrs_of_visit g.sorts parts false place.sort v) x (attr_of_visit place.sort x attr false has is) in
-          done_alike (a.Visit s v) (b.Value (place.start + x)) ((sound.visits s v).0 visit_there)
+          done_alike (a.Visit s v) (b.Value (place.start + x)) ((sound.complete.visits s v).0 visit_there)
           (subst (λ (pl : Place). Contains (values_of_visit g.sorts parts false pl.sort pl.start v ++ map (λ w. b.Kid s v w) (range_with_len (v + 1) (visits_of parts pl.sort - v))) (b.Value (place.start + x))) (sym at)
           (Contains-append_left (values_of_visit g.sorts parts false place.sort place.start v) (map (λ w. b.Kid s v w) (range_with_len (v + 1) (visits_of parts place.sort - v))) (b.Value (place.start + x)) member))
 

@@ -219,13 +219,13 @@ module _ (g : Grammar) (parts : List Partition) where
       -- All is made on a node that is right where its symbols serve their visits.
       pub node_made : AllMade g parts visit q (bare_kids kids) held
       node_made (a.Eval o) done =
-          let e = equation_there g formed n q there o ((sound.evaluates o).1 done) in
+          let e = equation_there g formed n q there o ((sound.complete.evaluates o).1 done) in
           record {
             given = record { height = 0; made = value (slice_index_or whole o no_tree) ∷ [] };
             is_given = ap (option_map (λ t. record { height = 0; made = value t ∷ [] })) (eval_made o e.0 e.1);
             made = refl;
           }
-      node_made (a.Visit s v) done = visited s v ((sound.visits s v).1 done)
+      node_made (a.Visit s v) done = visited s v ((sound.complete.visits s v).1 done)
 
       pub own_alike : AreAlike (length (attrs_of_sort g.sorts q.left)) (own_face g parts q held) (face_of g parts (at_node n own kids extras))
       own_alike = record {

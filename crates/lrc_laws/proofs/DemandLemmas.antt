@@ -99,7 +99,7 @@ module _ (g : Grammar) (parts : List Partition) (formed : IsTrue (is_well_formed
         ap (λ (r : Given). r.height) (sym found.2)
     made_high (a.Visit s v) done h =
         let place = symbol_at g.sorts q s in
-        let at = (plan.visits s v).1 done in
+        let at = (plan.complete.visits s v).1 done in
         let symbol = symbol_is g parts q own kids extras right kids_right extras_right s at.symbol in
         let d = symbol.0 in
         let good = among_right d symbol.1.among in

@@ -164,7 +164,7 @@ module _ (g : Grammar) (parts : List Partition) where
           let target = target_defined g formed n q there at.0 e at.1 in
           let found : equation_of q e.target ≡ Some e =
           find_one (λ (y : Equation). y.target == e.target) q.equations at.0 e (one_equation g formed n q there e.target target) at.1 (eq-eqb e.target e.target refl) in
-          act_reached (a.Eval e.target) x ((plan.evaluates e.target).0 target) (subst (λ ms. Contains ms x) (sym (eval_acts e.target e found)) h)
+          act_reached (a.Eval e.target) x ((plan.complete.evaluates e.target).0 target) (subst (λ ms. Contains ms x) (sym (eval_acts e.target e found)) h)
 
       symbol_reached : (x : Met) (d : Decorated) → Contains (symbols_in kids ++ symbols_in extras) d → Contains (demand g parts d) x → InReach (suc fuel) tree q.left x
       symbol_reached x d c h =
@@ -172,7 +172,7 @@ module _ (g : Grammar) (parts : List Partition) where
           let place = symbol_at g.sorts q at.0 in
           let good = among_right g parts formed sound fuel exact n q own kids extras there right kids_right extras_right kids_low extras_low d at.2.among in
           let reached = (below d place.sort good.0 good.1 at.2.of_sort x).there h in
-          act_reached (a.Visit at.0 reached.visit) x ((plan.visits at.0 reached.visit).0 (record { symbol = at.1; first = reached.first; last = reached.last }))
+          act_reached (a.Visit at.0 reached.visit) x ((plan.complete.visits at.0 reached.visit).0 (record { symbol = at.1; first = reached.first; last = reached.last }))
           (subst (λ ms. Contains ms x) (sym (visit_acts at.0 reached.visit d at.2)) reached.member)
 
       visit_reached : (x : Met) (v : ℕ) → Contains (range_with_len 1 (visits_of parts q.left)) v → Contains (visit_met g parts tree q.left v) x → InReach (suc fuel) tree q.left x
@@ -219,13 +219,13 @@ module _ (g : Grammar) (parts : List Partition) where
 
       act_demanded : (y : Action) (x : Met) → IsDone g.sorts parts q y → Contains (acts y) x → Contains (demand g parts tree) x
       act_demanded (a.Eval o) x done c =
-          let e = equation_there g formed n q there o ((plan.evaluates o).1 done) in
+          let e = equation_there g formed n q there o ((plan.complete.evaluates o).1 done) in
           let found = found_there (λ (y : Equation). y.target == o) q.equations e.0 e.1 in
           own_demanded x
           (Contains-append_right (flat_map (visit_met g parts tree q.left) (range_with_len 1 (visits_of parts q.left))) (flat_map (equation_met g (occurrence_values own kids extras) (leaf_at kids)) q.equations) x
           (member_flat (equation_met g (occurrence_values own kids extras) (leaf_at kids)) q.equations e.0 x found.0 (subst (λ ms. Contains ms x) (eval_acts o e.0 e.1) c)))
       act_demanded (a.Visit s v) x done c =
-          let at = (plan.visits s v).1 done in
+          let at = (plan.complete.visits s v).1 done in
           let found = symbol_is g parts q own kids extras right kids_right extras_right s at.symbol in
           let d = found.0 in
           let place = symbol_at g.sorts q s in

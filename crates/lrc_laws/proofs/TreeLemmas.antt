@@ -275,14 +275,14 @@ module _ (g : Grammar) (parts : List Partition) (formed : IsTrue (is_well_formed
         let first : 1 ≤ visits_of parts p.left = some p.left known in
         let kinds = (served_visit g parts visit f p n kids 1 there (serves 1 (omega arith) first)).kinds in
         tree_built fuel n p there kids kinds held
-        (λ o defined. made_evaluated g parts visit whole p kids held o (made (a.Eval o) ((plan.evaluates o).0 defined)))
+        (λ o defined. made_evaluated g parts visit whole p kids held o (made (a.Eval o) ((plan.complete.evaluates o).0 defined)))
         (λ s less.
         let place = symbol_at g.sorts p s in
         let there_place = slice_get-get_or (symbols_of g.sorts p) s (left_place p) less in
         let place_known = symbol_known n p there s place there_place in
         let has_first = some place.sort place_known in
         let one : (v : ℕ) → 1 ≤ v → v ≤ visits_of parts place.sort → IsTrue (is_of_kind g.prods (tree_at g p kids held s) (k.Sort place.sort)) × ServesOne g parts visit (symbol_face g parts p held s) place.sort (tree_at g p kids held s) v =
-        λ v low high. made_served g parts visit whole p kids held s v (made (a.Visit s v) ((plan.visits s v).0 (record { symbol = less; first = low; last = high }))) in
+        λ v low high. made_served g parts visit whole p kids held s v (made (a.Visit s v) ((plan.complete.visits s v).0 (record { symbol = less; first = low; last = high }))) in
         let tree = below (symbol_face g parts p held s) place.sort (tree_at g p kids held s) place_known (λ v low high. (one v low high).1) (one 1 (omega arith) has_first).0 in
         (tree.decorated, record { right = tree.right; of_sort = tree.of_sort; is_bare = tree.is_bare; low = tree.low; attrs = tree.attrs }))
         f (node_shows g parts visit whole p n kids there plan f serves visited)
