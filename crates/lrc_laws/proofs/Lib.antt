@@ -22,3 +22,4 @@ pub mod ReachLemmas
 pub mod SameReachLemmas
 pub mod OnceLemmas
 pub mod ApartLemmas
+pub mod SoundLemmas
