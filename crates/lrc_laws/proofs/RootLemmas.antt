@@ -13,12 +13,12 @@ use Rattle.lrc_base.specs.declared.grammar.Production.{Production}
 use Rattle.lrc_meaning.specs.Tree.{Tree, is_left, fits}
 use Rattle.lrc_meaning.specs.Grammar.{Grammar, attrs_of_sort}
 use Rattle.lrc_meaning.specs.Attribution.{Decorated, bare, attributes_of, production_of, IsAttribution, height, synthesised, Attributes}
-use Rattle.lrc_order.specs.Ordered.{Partitions}
+use Rattle.lrc_order.specs.Ordered.{IsGivenThere, Partitions, ArePartitions}
 use Rattle.lrc_sequence.specs.Items.{is_of, visit_of, visits_of, attrs_of_visit}
 use Rattle.lrc_sequence.specs.Sound.{IsSound}
 use Rattle.lrc_visit_meaning.specs.Values.{Result, no_data, no_tree, root_call}
 use Rattle.lrc_visit_meaning.specs.Visits.{is_of_kind, plain_visit}
-use Rattle.lrc_laws.specs.Laws.{HasSoundPlan, RootGives}
+use Rattle.lrc_laws.specs.Laws.{RootGives}
 use Rattle.lrc_visit_meaning.specs.Demand.{Met, demand, reach}
 use Rattle.lrc_laws.proofs.ReachLemmas.{demand_reach}
 use Rattle.lrc_laws.proofs.FuelLemmas.{visit_same, none_below, max_left, max_right}
@@ -29,6 +29,13 @@ use Rattle.lrc_laws.proofs.UniqueLemmas.{unique}
 use Rattle.lrc_laws.proofs.BackLemmas.{IsWhole, plain_whole}
 use Rattle.lrc_laws.proofs.TreeLemmas.{TreeBuilt, build}
 use Rattle.lrc_laws.proofs.PartitionLemmas.{each_some, each_visited, start_there, start_plain, start_visits}
+
+-- A well-formed grammar with its partitions, whose visit sequences are sound for each production.
+pub record HasSoundPlan (g : Grammar) (found : Partitions) : Type 0 where
+  pub formed : IsTrue (is_well_formed g)
+  pub given : All (IsGivenThere g.sorts) found.given
+  pub partitions : ArePartitions g found
+  pub sound : All (IsSound g.sorts found.sorts) g.prods
 
 filter_none : (test : ℕ → Bool) (a n : ℕ) → ((i : ℕ) → a ≤ i → i < a + n → test i ≡ false) → filter test (range_with_len a n) ≡ []
 filter_none test a zero h = refl

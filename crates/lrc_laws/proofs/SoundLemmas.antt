@@ -9,8 +9,9 @@ use Rattle.lrc_sequence.specs.Sound.{IsSound}
 use Rattle.lrc_plan.proofs.ListedLemmas.{all_ready}
 use Rattle.lrc_plan.proofs.GivesLemmas.{ordered_gives}
 use Rattle.lrc_plan.proofs.CompleteLemmas.{ordered_complete}
-use Rattle.lrc_laws.specs.Laws.{HasOrder, HasSoundPlan}
+use Rattle.lrc_laws.specs.Laws.{HasOrder}
 use Rattle.lrc_laws.proofs.ApartLemmas.{plan_fresh}
+use Rattle.lrc_laws.proofs.RootLemmas.{HasSoundPlan}
 
 module _ (g : Grammar) (found : Partitions) (order : HasOrder g found) where
   sound_at : (p : Production) → Contains g.prods p → IsSound g.sorts found.sorts p

@@ -33,13 +33,6 @@ pub record HasOrder (g : Grammar) (found : Partitions) : Type 0 where
   pub partitions : ArePartitions g found
   pub ordered : IsOrdered g found.given
 
--- The same, where its visit sequences are sound for each production in place of its being ordered.
-pub record HasSoundPlan (g : Grammar) (found : Partitions) : Type 0 where
-  pub formed : IsTrue (is_well_formed g)
-  pub given : All (IsGivenThere g.sorts) found.given
-  pub partitions : ArePartitions g found
-  pub sound : All (IsSound g.sorts found.sorts) g.prods
-
 -- the visit sequences of an ordered grammar are sound: each visit finds what it needs, gives its attributes, every action
 -- is made, and nothing becomes available twice
 abbrev pub OrderedIsSound : Type 0
