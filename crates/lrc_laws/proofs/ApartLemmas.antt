@@ -1,12 +1,12 @@
 -- No item becomes available twice in a greedy plan.
-use Rattle.std.proofs.Common.{◌≡◌, ℕ, zero, suc, ◌+◌, ◌-◌, ◌<◌, ◌≤◌, Bool, true, false, not, ◌&&◌, ◌==◌, cond, IsTrue, List, [], ◌∷◌, ◌++◌, map, length, get_or, Contains, Option, Some, None, ◌⊎◌, inl, inr, slice_get, refl, sym, ap, ◌∙◌, subst, arith, length-append}
-use Rattle.std.specs.Prelude.{filter, flat_map, AllPairs}
+use Rattle.std.proofs.Common.{◌≡◌, ℕ, zero, suc, ◌+◌, ◌-◌, ◌<◌, ◌≤◌, Bool, true, false, not, ◌&&◌, ◌==◌, cond, IsTrue, List, [], ◌∷◌, ◌++◌, map, length, Contains, Option, Some, None, ◌⊎◌, inl, inr, slice_get, refl, sym, ap, ◌∙◌, subst, arith, length-append}
+use Rattle.std.specs.Prelude.{flat_map, AllPairs}
 use Rattle.std.specs.Option.{option_map, option_map_or}
 use Rattle.std.specs.List.{range_with_len}
-use Rattle.std.proofs.lemmas.Bool.{false≢true, true≢false, cases_Bool, cases_order, and_parts, eqb-true}
+use Rattle.std.proofs.lemmas.Bool.{true≢false, cases_order, and_parts, eqb-true}
 use Rattle.std.proofs.lemmas.Option.{none-some, same_Some, slice_get-map, slice_get-get_or, slice_get_within}
 use Rattle.std.proofs.lemmas.List.{length-map}
-use Rattle.std.proofs.lemmas.List.Elements.{Contains-append_left, Contains-append_right, Contains-append_cases}
+use Rattle.std.proofs.lemmas.List.Elements.{Contains-append_cases}
 use Rattle.lrc_base.specs.declared.grammar.Attr.{Attr}
 use Rattle.lrc_base.specs.declared.grammar.Kind.{Kind}
 use Rattle.lrc_base.specs.declared.grammar.Kind.TheVariants as k
@@ -23,9 +23,9 @@ use Rattle.lrc_sequence.specs.declared.Action.TheVariants as a
 use Rattle.lrc_sequence.specs.declared.Bound.{Bound}
 use Rattle.lrc_sequence.specs.declared.Bound.TheVariants as b
 use Rattle.lrc_sequence.specs.Items.{visit_of, visits_of, is_of, attrs_of_visit, values_of_visit, symbol_at, makes}
-use Rattle.lrc_sequence.specs.Sequences.{is_defined, actions_of, segment}
+use Rattle.lrc_sequence.specs.Sequences.{is_defined, segment}
 use Rattle.lrc_sequence.specs.Bindings.{gained}
-use Rattle.lrc_laws.proofs.ListLemmas.{member_first, member_cases, no_member, member_of_map, member_of_flat, member_of_filter, member_of_range}
+use Rattle.lrc_laws.proofs.ListLemmas.{member_cases, no_member, member_of_map, member_of_flat, member_of_filter, member_of_range}
 use Rattle.lrc_laws.proofs.OccurrenceLemmas.{slice_left, slice_right}
 use Rattle.lrc_laws.proofs.UniqueLemmas.{attr_in_visit}
 use Rattle.lrc_laws.proofs.FreshLemmas.{Distinct}
@@ -267,11 +267,10 @@ module _ (g : Grammar) (parts : List Partition) (p : Production) where
   visits_same : (s v t w : ℕ) (z : Bound) → s < length (symbols_of g.sorts p) → t < length (symbols_of g.sorts p) → IsGiven s v z ⊎ IsHanded s v z → IsGiven t w z ⊎ IsHanded t w z → (s ≡ t) × (v ≡ w)
   visits_same s v t w z ls lt (inl h) (inl k) =
       let same = same_place s t h.attribute k.attribute ls lt (given_within s v z h) (given_within t w z k) (value_same_occurrence _ _ (sym h.is ∙ k.is)) in
-      let sort : (symbol_at g.sorts p s).sort ≡ (symbol_at g.sorts p t).sort = ap (λ i. (symbol_at g.sorts p i).sort) same.0 in
-      (
+      let sort : (symbol_at g.sorts p s).sort ≡ (symbol_at g.sorts p t).sort = ap (λ i. (symbol_at g.sorts p i).sort) same.0 in (
         same.0,
         sym (visit_told false (symbol_at g.sorts p s).sort v h.attribute h.among) ∙ ap (λ r. visit_of parts r h.attribute) sort ∙ ap (visit_of parts (symbol_at g.sorts p t).sort) same.1
-        ∙ visit_told false (symbol_at g.sorts p t).sort w k.attribute k.among,
+            ∙ visit_told false (symbol_at g.sorts p t).sort w k.attribute k.among,
       )
   visits_same s v t w z ls lt (inl h) (inr k) = absurd (no_value_kid _ t w k.later (sym h.is ∙ k.is))
   visits_same s v t w z ls lt (inr h) (inl k) = absurd (no_value_kid _ s v h.later (sym k.is ∙ h.is))

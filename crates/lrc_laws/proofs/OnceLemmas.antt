@@ -1,9 +1,8 @@
 -- No action of a greedy plan is done twice, and each is one of the production's actions.
-use Rattle.std.proofs.Common.{◌≡◌, ℕ, zero, suc, ◌+◌, ◌-◌, ◌<◌, ◌≤◌, Bool, true, false, cond, IsTrue, List, [], ◌∷◌, ◌++◌, map, length, get_or, Contains, Option, Some, None, ◌⊎◌, inl, inr, refl, sym, ap, ◌∙◌, subst, arith, append_assoc, append-nil}
+use Rattle.std.proofs.Common.{◌≡◌, ℕ, zero, suc, ◌+◌, ◌-◌, ◌<◌, ◌≤◌, Bool, true, false, cond, IsTrue, List, [], ◌∷◌, ◌++◌, map, length, get_or, Contains, Option, Some, None, ◌⊎◌, inl, inr, refl, sym, ◌∙◌, subst, arith, append_assoc, append-nil}
 use Rattle.std.specs.Prelude.{filter, flat_map, AllPairs}
 use Rattle.std.specs.Option.{option_map, option_map_or}
 use Rattle.std.specs.List.{range_with_len}
-use Rattle.std.proofs.lemmas.Bool.{cases_order}
 use Rattle.std.proofs.lemmas.Option.{none-some, same_Some}
 use Rattle.std.proofs.lemmas.List.{get_or_default}
 use Rattle.std.proofs.lemmas.List.Elements.{Contains-append_left, Contains-append_right, Contains-append_cases}
@@ -14,9 +13,9 @@ use Rattle.lrc_order.specs.declared.Partition.{Partition}
 use Rattle.lrc_order.specs.Needs.{symbols_of}
 use Rattle.lrc_sequence.specs.declared.Action.{Action}
 use Rattle.lrc_sequence.specs.declared.Action.TheVariants as a
-use Rattle.lrc_sequence.specs.Items.{visits_of, symbol_at, makes}
+use Rattle.lrc_sequence.specs.Items.{visits_of, symbol_at}
 use Rattle.lrc_sequence.specs.Sequences.{is_defined, visits_at, actions_of, State, pick, is_ready, did, greedy, entered, segments_from, segments_of, segment}
-use Rattle.lrc_laws.proofs.ListLemmas.{member_first, member_later, member_cases, no_member, member_map, member_of_map, member_flat, member_of_flat, member_of_filter, member_range, member_of_range}
+use Rattle.lrc_laws.proofs.ListLemmas.{member_first, member_later, member_cases, no_member, member_of_map, member_of_flat, member_of_filter, member_of_range}
 use Rattle.lrc_laws.proofs.FreshLemmas.{Distinct, distinct_left, distinct_right, apart}
 
 abbrev pub Within : {X : Type 0} → List X → List X → Type 0
@@ -115,8 +114,7 @@ pick_over test y ys found false e below = inner (pick test ys) refl e
           within = λ x c. elim (member_cases y f.1 x c) [ inl s ↦ (0, omega arith, s) | inr later ↦ member_later y ys x (p.within x later) ];
           member = member_later y ys f.0 p.member;
           once = λ h.
-              let o = p.once h.1 in
-              (
+              let o = p.once h.1 in (
                 λ c. elim (member_cases y f.1 f.0 c) [ inl s ↦ h.0 (subst (Contains ys) (sym s) p.member) | inr later ↦ o.0 later ],
                 (λ c. h.0 (p.within y c), o.1),
               );
@@ -168,10 +166,9 @@ module _ (sorts : List Sort) (parts : List Partition) (p : Production) where
       let kept = greedy_keeps (length s.left) start in
       let once = kept.once h in
       let rest = segments_once n (v + 1) after (distinct_right kept.new after.left once) in
-      let later = flat_map (λ xs. xs) (segments_from sorts parts p n (v + 1) after) in
-      (
+      let later = flat_map (λ xs. xs) (segments_from sorts parts p n (v + 1) after) in (
         subst (λ d. Distinct (d ++ later)) (sym kept.done)
-        (join_distinct kept.new later (distinct_left kept.new after.left once) rest.0 (λ x c d. apart kept.new after.left once x c (rest.1 x d))),
+            (join_distinct kept.new later (distinct_left kept.new after.left once) rest.0 (λ x c d. apart kept.new after.left once x c (rest.1 x d))),
         λ x c.
             elim (Contains-append_cases after.done later x c) [
               | inl l ↦ kept.within x (Contains-append_left kept.new after.left x (subst (λ d. Contains d x) kept.done l))

@@ -1,5 +1,5 @@
 -- Attributions of trees of the start sort, and the one visit of their roots.
-use Rattle.std.proofs.Common.{◌≡◌, ℕ, zero, suc, ◌+◌, ◌-◌, ◌<◌, ◌≤◌, max, Bool, true, false, not, ◌&&◌, ◌==◌, IsTrue, cond, List, [], ◌∷◌, map, length, get_or, Contains, Some, inl, inr, ◌↔◌, slice_get, refl, sym, ap, ◌∙◌, subst, arith}
+use Rattle.std.proofs.Common.{◌≡◌, ℕ, zero, suc, ◌+◌, ◌-◌, ◌<◌, ◌≤◌, max, Bool, true, false, not, ◌&&◌, ◌==◌, IsTrue, cond, List, [], ◌∷◌, map, length, All, get_or, Contains, Some, inl, inr, ◌↔◌, slice_get, refl, sym, ap, ◌∙◌, subst, arith}
 use Rattle.std.specs.Prelude.{filter, slice_index_or}
 use Rattle.std.specs.Option.{option_map_or}
 use Rattle.std.specs.List.{range_with_len}
@@ -11,7 +11,7 @@ use Rattle.lrc_base.specs.declared.grammar.Attr.{Attr}
 use Rattle.lrc_base.specs.declared.grammar.Kind.TheVariants as k
 use Rattle.lrc_base.specs.declared.grammar.Production.{Production}
 use Rattle.lrc_meaning.specs.Tree.{Tree, is_left, fits}
-use Rattle.lrc_meaning.specs.Grammar.{Grammar, attrs_of_sort}
+use Rattle.lrc_meaning.specs.Grammar.{Grammar, attrs_of_sort, is_well_formed}
 use Rattle.lrc_meaning.specs.Attribution.{Decorated, bare, attributes_of, production_of, IsAttribution, height, synthesised, Attributes}
 use Rattle.lrc_order.specs.Ordered.{IsGivenThere, Partitions, ArePartitions}
 use Rattle.lrc_sequence.specs.Items.{is_of, visit_of, visits_of, attrs_of_visit}

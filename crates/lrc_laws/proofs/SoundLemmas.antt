@@ -1,5 +1,5 @@
 -- The greedy plan of an ordered grammar is sound.
-use Rattle.std.proofs.Common.{ℕ, List, All, Contains}
+use Rattle.std.proofs.Common.{Contains}
 use Rattle.std.proofs.lemmas.List.Elements.{Contains-get_or}
 use Rattle.std.specs.Prelude.{slice_index_or}
 use Rattle.lrc_base.specs.declared.grammar.Production.{Production}
