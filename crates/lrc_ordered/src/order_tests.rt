@@ -1,4 +1,3 @@
-
 use crate::{OrderFault, Partitions, are_given_there, ordered, ordered_with};
 use lrc_base::{
     Attr, Boxed, Equation, Expr, Extra, Given, Kid, Kind, List, Memory, NameText, Op, Production,
@@ -118,14 +117,12 @@ fn declaration(alloc: Global) -> Result<Production, Fail> {
     Ok(declaration)
 }
 
-fn grammar(alloc: Global, sorts: List<Sort>, prods: List<Production>) -> Result<Grammar, Fail>
-{
+fn grammar(alloc: Global, sorts: List<Sort>, prods: List<Production>) -> Result<Grammar, Fail> {
     Ok(Grammar::new(alloc, sorts, prods, 0)?.ok_or("not well formed")?)
 }
 
 /// Items give their declarations, take the environment of all, and give how many are bad.
-fn declarations(alloc: Global) -> Result<Grammar, Fail>
-{
+fn declarations(alloc: Global) -> Result<Grammar, Fail> {
     let mut prods = List::new(alloc);
     prods.push(production(alloc, 0, 0, &[Kind::Sort(1)], &[(2, Some(1)), (0, Some(3))])?)?;
     prods.push(production(alloc, 1, 1, &[], &[(0, None), (2, None)])?)?;
@@ -135,8 +132,7 @@ fn declarations(alloc: Global) -> Result<Grammar, Fail>
 }
 
 /// Two of the second sort, each of which needs an attribute of the other; the third stands nowhere.
-fn needed_across(alloc: Global) -> Result<Grammar, Fail>
-{
+fn needed_across(alloc: Global) -> Result<Grammar, Fail> {
     let read = [(1, None), (2, Some(8)), (5, Some(3)), (6, None)];
     let mut top = production(alloc, 0, 0, &[Kind::Sort(1), Kind::Sort(1)], &read)?;
     let sum = operation(alloc, Op::Add, Expr::Occ(4), Expr::Occ(7))?;

@@ -1,12 +1,12 @@
 -- In an ordered grammar each visit gives all its synthesised attributes.
-use Rattle.std.proofs.Common.{◌≡◌, ℕ, zero, suc, ◌+◌, ◌-◌, ◌*◌, ◌/◌, ◌%◌, ◌<◌, ◌≤◌, Bool, true, false, not, ◌||◌, ◌==◌, IsTrue, List, [], ◌∷◌, ◌++◌, length, map, get_or, slice_get, slice_index, All, Contains, Option, Some, None, ◌⊎◌, inl, inr, refl, sym, ap, ◌∙◌, subst, arith}
+use Rattle.std.proofs.Common.{◌≡◌, ℕ, zero, suc, ◌+◌, ◌-◌, ◌<◌, ◌≤◌, Bool, true, false, not, ◌||◌, ◌==◌, List, [], ◌∷◌, length, map, get_or, slice_get, slice_index, All, Contains, Some, ◌⊎◌, inl, inr, refl, sym, ap, ◌∙◌, subst, arith}
 use Rattle.std.specs.Prelude.{filter, flat_map}
 use Rattle.std.specs.Option.{option_map_or}
 use Rattle.std.specs.List.{range_with_len, list_any, IsDistinct, AllByRecursion}
 use Rattle.std.proofs.lemmas.Bool.{cases_lt, true≢false, ne_eqb, eqb-true}
 use Rattle.std.proofs.Math.Dec.{eqb}
 use Rattle.std.proofs.lemmas.Map.Steps.{length-le_from_distinct_below}
-use Rattle.std.proofs.lemmas.Option.{same_Some, slice_get_within}
+use Rattle.std.proofs.lemmas.Option.{slice_get_within}
 use Rattle.std.proofs.lemmas.List.Elements.{All-contains, Contains-append_left, Contains-append_right}
 use Rattle.lrc_base.specs.declared.grammar.Attr.{Attr}
 use Rattle.lrc_base.specs.declared.grammar.Production.{Production}
@@ -16,16 +16,15 @@ use Rattle.lrc_graph.proofs.PairsLemmas.{joined}
 use Rattle.lrc_order.specs.declared.Need.{Need}
 use Rattle.lrc_order.specs.declared.Partition.{Partition}
 use Rattle.lrc_order.specs.declared.Place.{Place}
-use Rattle.lrc_order.specs.Needs.{need, needs_of, places_of, symbols_of, left_place, tree_needs, occurrences_at, equation_needs}
+use Rattle.lrc_order.specs.Needs.{need, places_of, symbols_of, left_place, tree_needs, occurrences_at, equation_needs}
 use Rattle.lrc_order.specs.Sets.{Before}
 use Rattle.lrc_order.specs.Extended.{Extended, ExtendedPath}
 use Rattle.lrc_order.specs.Ordered.{Partitions, ArePartitions, IsGivenThere, IsAcyclic}
 use Rattle.lrc_order.proofs.TurnLemmas.{sets_in_turn}
-use Rattle.lrc_ordered.proofs.PlaceLemmas.{IsWithin, places_within}
-use Rattle.lrc_ordered.proofs.RangeLemmas.{IsPlaced, places_placed, IsNeedWithin}
+use Rattle.lrc_ordered.proofs.PlaceLemmas.{places_within}
+use Rattle.lrc_ordered.proofs.RangeLemmas.{places_placed, IsNeedWithin}
 use Rattle.lrc_ordered.proofs.BridgeLemmas.{item_at}
 use Rattle.lrc_sequence.specs.declared.Action.TheVariants as a
-use Rattle.lrc_sequence.specs.declared.Bound.{Bound}
 use Rattle.lrc_sequence.specs.declared.Bound.TheVariants as b
 use Rattle.lrc_sequence.specs.Items.{is_among, visits_of, visit_of, values_of_visit, given_back, extended_of, symbol_at}
 use Rattle.lrc_sequence.specs.Sequences.{State, is_defined}
@@ -33,12 +32,12 @@ use Rattle.lrc_sequence.proofs.ItemLemmas.{contained}
 use Rattle.lrc_sequence.proofs.ExtendedLemmas.{partition_of, read_extended}
 use Rattle.lrc_sequence.proofs.MemberLemmas.{from_map, from_filter, in_head, in_tail, in_map, in_flat, in_row, same_item}
 use Rattle.lrc_plan.proofs.WaitingLemmas.{defined_at}
-use Rattle.lrc_plan.proofs.OccurrenceLemmas.{OfPlace, OfLeft, stands_at}
+use Rattle.lrc_plan.proofs.OccurrenceLemmas.{stands_at}
 use Rattle.lrc_plan.proofs.InLemmas.{extended_within}
 use Rattle.lrc_plan.proofs.EndLemmas.{IsKept, AllDone}
-use Rattle.lrc_plan.proofs.TurnLemmas.{HasVisit, has_visit, part}
+use Rattle.lrc_plan.proofs.TurnLemmas.{has_visit, part}
 use Rattle.lrc_plan.proofs.DecidedLemmas.{as_table}
-use Rattle.lrc_plan.proofs.TraceLemmas.{awaits_absent, in_values, Blocks, visit_blocked, still_visit, still_eval, not_absent}
+use Rattle.lrc_plan.proofs.TraceLemmas.{awaits_absent, in_values, visit_blocked, still_visit, still_eval, not_absent}
 
 -- numbers of which no two are equal, and one more
 differ : (q : ℕ) (xs : List ℕ) → ((y : ℕ) → Contains xs y → q ≡ y → ⊥) → AllByRecursion (λ y. eqb q y ≡ false) xs

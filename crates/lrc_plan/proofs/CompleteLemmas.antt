@@ -1,11 +1,11 @@
 -- In an ordered grammar every action of a production is made, and no other.
-use Rattle.std.proofs.Common.{◌≡◌, ℕ, suc, ◌+◌, ◌-◌, ◌<◌, ◌≤◌, Bool, true, false, IsTrue, List, [], ◌∷◌, ◌++◌, length, map, get_or, slice_get, All, Contains, Option, Some, None, ◌⊎◌, inl, inr, refl, sym, ap, ◌∙◌, subst, arith}
+use Rattle.std.proofs.Common.{◌≡◌, ℕ, ◌-◌, ◌<◌, ◌≤◌, true, false, IsTrue, List, [], length, map, slice_get, All, Contains, Option, Some, None, inl, inr, refl, sym, arith}
 use Rattle.std.specs.Prelude.{filter, flat_map}
 use Rattle.std.specs.Option.{option_map_or}
 use Rattle.std.specs.List.{range_with_len}
 use Rattle.std.proofs.lemmas.Bool.{true≢false}
 use Rattle.std.proofs.lemmas.Option.{slice_get_within}
-use Rattle.std.proofs.lemmas.List.Elements.{All-append, All-map, All-contains, All-weaker, filter_passes}
+use Rattle.std.proofs.lemmas.List.Elements.{All-append, All-map, All-contains, filter_passes}
 use Rattle.lrc_base.specs.declared.grammar.Sort.{Sort}
 use Rattle.lrc_base.specs.declared.grammar.Production.{Production}
 use Rattle.lrc_meaning.specs.Grammar.{Grammar, Occurrence, occurrences_of, is_well_formed}
@@ -17,7 +17,7 @@ use Rattle.lrc_ordered.proofs.RangeLemmas.{all_flat}
 use Rattle.lrc_sequence.specs.declared.Action.{Action}
 use Rattle.lrc_sequence.specs.declared.Action.TheVariants as a
 use Rattle.lrc_sequence.specs.Items.{visits_of, symbol_at}
-use Rattle.lrc_sequence.specs.Sequences.{is_defined, visits_at, actions_of, segments_of, segment}
+use Rattle.lrc_sequence.specs.Sequences.{is_defined, visits_at, actions_of, segment}
 use Rattle.lrc_sequence.specs.Sound.{IsDone, IsVisitThere, IsComplete}
 use Rattle.lrc_sequence.proofs.ExtendedLemmas.{partition_of}
 use Rattle.lrc_sequence.proofs.GreedyLemmas.{segments_are_of}

@@ -1,13 +1,13 @@
 -- What holds at the end of each segment of a production; with it, each visit gives its synthesised attributes.
-use Rattle.std.proofs.Common.{◌≡◌, ℕ, zero, suc, ◌+◌, ◌-◌, ◌<◌, ◌≤◌, Bool, true, false, ◌&&◌, IsTrue, List, [], ◌∷◌, ◌++◌, length, get_or, slice_get, All, Contains, Some, ◌⊎◌, inl, inr, refl, sym, ap, ◌∙◌, subst, append_assoc, append-nil, length-append, arith}
-use Rattle.std.specs.Prelude.{filter, flat_map}
+use Rattle.std.proofs.Common.{◌≡◌, ℕ, zero, suc, ◌+◌, ◌-◌, ◌<◌, ◌≤◌, true, false, ◌&&◌, IsTrue, List, [], ◌∷◌, ◌++◌, length, get_or, All, Contains, ◌⊎◌, inl, inr, refl, sym, ap, ◌∙◌, subst, append_assoc, append-nil, length-append, arith}
+use Rattle.std.specs.Prelude.{flat_map}
 use Rattle.std.specs.List.{range_with_len}
 use Rattle.std.proofs.lemmas.Bool.{cases_eq}
 use Rattle.std.proofs.lemmas.Option.{slice_get_within}
 use Rattle.std.proofs.lemmas.List.Elements.{All-contains, Contains-append_left, Contains-append_right, Contains-append_cases}
 use Rattle.lrc_base.specs.declared.grammar.Sort.{Sort}
 use Rattle.lrc_base.specs.declared.grammar.Production.{Production}
-use Rattle.lrc_meaning.specs.Grammar.{Grammar, attrs_of_sort, occurrences_of, is_production_right, is_well_formed}
+use Rattle.lrc_meaning.specs.Grammar.{Grammar, attrs_of_sort, is_well_formed}
 use Rattle.lrc_order.specs.declared.Partition.{Partition}
 use Rattle.lrc_order.specs.Extended.{ExtendedPath}
 use Rattle.lrc_order.specs.Needs.{left_place}
@@ -16,18 +16,18 @@ use Rattle.lrc_ordered.proofs.PlaceLemmas.{places_within}
 use Rattle.lrc_sequence.specs.declared.Action.{Action}
 use Rattle.lrc_sequence.specs.declared.Bound.{Bound}
 use Rattle.lrc_sequence.specs.declared.Bound.TheVariants as b
-use Rattle.lrc_sequence.specs.Items.{is_among, visits_of, visit_of, values_of_visit, needs, makes}
+use Rattle.lrc_sequence.specs.Items.{is_among, visits_of, values_of_visit, needs, makes}
 use Rattle.lrc_sequence.specs.Sequences.{State, greedy, entered, actions_of, segments_from, segments_of, segment}
 use Rattle.lrc_sequence.specs.Bindings.{items_of, gained, used, binding}
 use Rattle.lrc_sequence.specs.Sound.{handed_in, GivesAll}
 use Rattle.lrc_sequence.proofs.ItemLemmas.{among}
 use Rattle.lrc_sequence.proofs.GreedyLemmas.{greedy_keeps}
 use Rattle.lrc_sequence.proofs.MemberLemmas.{same_item, in_flat, in_filter, in_row}
-use Rattle.lrc_sequence.proofs.ReadyLemmas.{RunsFrom, runs_on, IsEarlier, made_by, entering, count, segment_at}
+use Rattle.lrc_sequence.proofs.ReadyLemmas.{RunsFrom, runs_on, IsEarlier, made_by, entering, segment_at}
 use Rattle.lrc_plan.proofs.ListedLemmas.{value_listed}
 use Rattle.lrc_plan.proofs.InLemmas.{production_is_right}
 use Rattle.lrc_plan.proofs.EndLemmas.{IsKept, kept_on, IsMoved, moves_on, AllDone, ends, stays}
-use Rattle.lrc_plan.proofs.TraceLemmas.{FromValues, from_values}
+use Rattle.lrc_plan.proofs.TraceLemmas.{from_values}
 use Rattle.lrc_plan.proofs.BackLemmas.{given_at_end}
 
 module _ (sorts : List Sort) (parts : List Partition) (p : Production) where
@@ -68,32 +68,32 @@ module _ (sorts : List Sort) (parts : List Partition) (p : Production) where
       let ended_t = ends sorts parts p (length s.left) s1 (omega arith) in
       let taken_t : (u : ℕ) → 1 ≤ u → u < v + 1 → All (Contains t.available) (entering sorts parts p u) =
       λ u one le.
-          stays sorts parts p (entering sorts parts p u) (length s.left) s1
-          (elim (cases_eq u v) [
-            | inl e ↦ λ k d less. Contains-append_right s.available E (get_or (entering sorts parts p u) k d) (subst (λ z. Contains (entering sorts parts p z) (get_or (entering sorts parts p u) k d)) e (k, less, same_item (entering sorts parts p u) k (get_or (entering sorts parts p u) k d) d less))
-            | inr ne ↦ λ k d less. Contains-append_left s.available E (get_or (entering sorts parts p u) k d) (taken u one (omega arith) k d less)
-          ]) in
+      stays sorts parts p (entering sorts parts p u) (length s.left) s1
+      (elim (cases_eq u v) [
+        | inl e ↦ λ k d less. Contains-append_right s.available E (get_or (entering sorts parts p u) k d) (subst (λ z. Contains (entering sorts parts p z) (get_or (entering sorts parts p u) k d)) e (k, less, same_item (entering sorts parts p u) k (get_or (entering sorts parts p u) k d) d less))
+        | inr ne ↦ λ k d less. Contains-append_left s.available E (get_or (entering sorts parts p u) k d) (taken u one (omega arith) k d less)
+      ]) in
       let moved = greedy_keeps sorts parts p (IsMoved sorts parts p s.left) (moves_on sorts parts p s.left) (length s.left) s1 (record { moved = λ x m. inl m }) in
       let done_t : (x : Action) → Contains (actions_of sorts parts p) x → Contains t.left x ⊎ DoneBefore (v + 1) x =
       λ x m.
-          elim (before x m) [
-            | inr old ↦ let l = old.2 in inr (old.0, old.1, omega arith, old.3)
-            | inl left ↦
-                elim (moved.moved x left) [
-                  | inl still ↦ inl still
-                  | inr done ↦ inr (v, omega arith, omega arith, subst (λ xs. Contains xs x) (sym now) done)
-                ]
-          ] in
+      elim (before x m) [
+        | inr old ↦ let l = old.2 in inr (old.0, old.1, omega arith, old.3)
+        | inl left ↦
+            elim (moved.moved x left) [
+              | inl still ↦ inl still
+              | inr done ↦ inr (v, omega arith, omega arith, subst (λ xs. Contains xs x) (sym now) done)
+            ]
+      ] in
       let from_t : (y : Bound) → Contains t.available y → Contains (E ++ made_by sorts parts p (segment sorts parts p v)) y ⊎ IsEarlier sorts parts p v y =
       λ y m.
-          elim (Contains-append_cases A (made_by sorts parts p t.done) y (subst (λ xs. Contains xs y) runs.available m)) [
-            | inr made ↦ inl (Contains-append_right E (made_by sorts parts p (segment sorts parts p v)) y (subst (λ xs. Contains (made_by sorts parts p xs) y) (sym now) made))
-            | inl old ↦
-                elim (Contains-append_cases s.available E y old) [
-                  | inl older ↦ inr (earlier y older)
-                  | inr here ↦ inl (Contains-append_left E (made_by sorts parts p (segment sorts parts p v)) y here)
-                ]
-          ] in
+      elim (Contains-append_cases A (made_by sorts parts p t.done) y (subst (λ xs. Contains xs y) runs.available m)) [
+        | inr made ↦ inl (Contains-append_right E (made_by sorts parts p (segment sorts parts p v)) y (subst (λ xs. Contains (made_by sorts parts p xs) y) (sym now) made))
+        | inl old ↦
+            elim (Contains-append_cases s.available E y old) [
+              | inl older ↦ inr (earlier y older)
+              | inr here ↦ inl (Contains-append_left E (made_by sorts parts p (segment sorts parts p v)) y here)
+            ]
+      ] in
       elim (cases_eq v w) [
         | inl e ↦
             subst EndsAt e

@@ -1,5 +1,5 @@
 -- What an action needs is among the items of its production, so that its visits can be made one after another.
-use Rattle.std.proofs.Common.{◌≡◌, ℕ, suc, ◌+◌, ◌-◌, ◌<◌, ◌≤◌, true, false, ◌==◌, IsTrue, List, [], ◌∷◌, ◌++◌, length, map, All, Contains, Option, Some, None, refl, arith}
+use Rattle.std.proofs.Common.{◌≡◌, ℕ, suc, ◌+◌, ◌-◌, ◌<◌, ◌≤◌, true, ◌==◌, IsTrue, List, [], ◌∷◌, ◌++◌, length, map, All, Contains, Option, Some, None, refl, arith}
 use Rattle.std.specs.Prelude.{filter, flat_map}
 use Rattle.std.specs.Option.{option_map_or}
 use Rattle.std.specs.List.{range_with_len}
@@ -11,7 +11,7 @@ use Rattle.lrc_order.specs.declared.Need.{Need}
 use Rattle.lrc_order.specs.declared.Partition.{Partition}
 use Rattle.lrc_order.specs.declared.Place.{Place}
 use Rattle.lrc_order.specs.Needs.{symbols_of, left_place, places_of, equation_needs, tree_needs}
-use Rattle.lrc_ordered.proofs.PlaceLemmas.{IsWithin, places_within}
+use Rattle.lrc_ordered.proofs.PlaceLemmas.{places_within}
 use Rattle.lrc_ordered.proofs.RangeLemmas.{all_flat, IsPlaced, places_placed, IsNeedWithin, needs_within}
 use Rattle.lrc_sequence.specs.declared.Action.{Action}
 use Rattle.lrc_sequence.specs.declared.Action.TheVariants as a

@@ -1,31 +1,27 @@
 -- What is not available leads back to an inherited attribute of the left side of a later visit.
-use Rattle.std.proofs.Common.{◌≡◌, ℕ, zero, suc, ◌+◌, ◌-◌, ◌*◌, ◌/◌, ◌%◌, ◌<◌, ◌≤◌, Bool, true, false, not, ◌&&◌, ◌==◌, cond, IsTrue, List, [], ◌∷◌, ◌++◌, length, map, get_or, slice_get, slice_index, All, Contains, Option, Some, None, ◌⊎◌, inl, inr, refl, sym, ap, ◌∙◌, subst, arith}
+use Rattle.std.proofs.Common.{◌≡◌, ℕ, zero, suc, ◌+◌, ◌-◌, ◌<◌, ◌≤◌, Bool, true, false, not, ◌&&◌, ◌==◌, cond, List, [], ◌∷◌, ◌++◌, length, map, get_or, slice_get, Contains, Option, Some, None, ◌⊎◌, inl, inr, refl, sym, ap, ◌∙◌, subst, arith}
 use Rattle.std.specs.Prelude.{filter, flat_map}
 use Rattle.std.specs.Option.{option_map_or}
 use Rattle.std.specs.List.{range_with_len}
-use Rattle.std.proofs.lemmas.Bool.{and_parts, eqb-true, eq-eqb, true≢false, cases_lt}
-use Rattle.std.proofs.lemmas.Option.{same_Some, slice_get_within, slice_get-get_or, none-some}
+use Rattle.std.proofs.lemmas.Bool.{and_parts, eqb-true, eq-eqb, true≢false}
+use Rattle.std.proofs.lemmas.Option.{slice_get_within}
 use Rattle.std.proofs.lemmas.List.Elements.{All-contains, Contains-append_left, Contains-append_right, Contains-append_cases}
 use Rattle.lrc_base.specs.declared.grammar.Attr.{Attr}
 use Rattle.lrc_base.specs.declared.grammar.Sort.{Sort}
 use Rattle.lrc_base.specs.declared.grammar.Production.{Production}
-use Rattle.lrc_meaning.specs.Grammar.{Grammar, Occurrence, attrs_of_sort, occurrences_of, own_occurrence, symbol_occurrence}
-use Rattle.lrc_graph.specs.Pairs.{Path, step, onward}
+use Rattle.lrc_meaning.specs.Grammar.{attrs_of_sort, occurrences_of}
 use Rattle.lrc_order.specs.declared.Need.{Need}
 use Rattle.lrc_order.specs.declared.Partition.{Partition}
 use Rattle.lrc_order.specs.declared.Place.{Place}
-use Rattle.lrc_order.specs.Needs.{need, needs_of, places_of, symbols_of, left_place, tree_needs, occurrences_at, equation_needs}
-use Rattle.lrc_order.specs.Sets.{Before}
-use Rattle.lrc_order.specs.Extended.{Extended, ExtendedPath}
-use Rattle.lrc_order.specs.Ordered.{Partitions, ArePartitions, IsGivenThere, IsAcyclic}
+use Rattle.lrc_order.specs.Needs.{symbols_of}
 use Rattle.lrc_sequence.specs.declared.Action.{Action}
 use Rattle.lrc_sequence.specs.declared.Action.TheVariants as a
 use Rattle.lrc_sequence.specs.declared.Bound.{Bound}
 use Rattle.lrc_sequence.specs.declared.Bound.TheVariants as b
-use Rattle.lrc_sequence.specs.Items.{is_among, visits_of, visit_of, is_of, attrs_of_visit, values_of_visit, tree_of, taken, given_back, extended_of, firsts_of, symbol_at, makes, awaits}
+use Rattle.lrc_sequence.specs.Items.{is_among, visits_of, visit_of, is_of, attrs_of_visit, values_of_visit, tree_of, given_back, extended_of, symbol_at, awaits}
 use Rattle.lrc_sequence.specs.Sequences.{State, is_ready, is_defined, visits_at, actions_of}
-use Rattle.lrc_sequence.proofs.ItemLemmas.{among, contained}
-use Rattle.lrc_sequence.proofs.MemberLemmas.{in_head, in_map, in_flat, in_filter, in_row, from_map, from_filter, from_row, same_item}
+use Rattle.lrc_sequence.proofs.ItemLemmas.{among}
+use Rattle.lrc_sequence.proofs.MemberLemmas.{in_head, in_map, in_flat, in_filter, in_row, from_map, from_filter, from_row}
 use Rattle.lrc_plan.proofs.EndLemmas.{fails_at, IsKept, AllDone}
 
 -- the attribute is of the direction

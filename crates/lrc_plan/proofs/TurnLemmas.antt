@@ -1,18 +1,13 @@
 -- Attributes of a sort come in the order of their visits, what a visit takes before what it gives.
-use Rattle.std.proofs.Common.{◌≡◌, ℕ, zero, suc, ◌+◌, ◌-◌, ◌*◌, ◌/◌, ◌%◌, ◌<◌, ◌≤◌, Bool, true, false, not, IsTrue, List, length, slice_get, slice_index, get_or, All, Contains, Some, ◌⊎◌, inl, inr, refl, sym, ap, ◌∙◌, subst, arith}
-use Rattle.std.specs.Prelude.{filter}
-use Rattle.std.specs.List.{range_with_len}
+use Rattle.std.proofs.Common.{◌≡◌, ℕ, zero, suc, ◌+◌, ◌*◌, ◌/◌, ◌%◌, ◌<◌, ◌≤◌, Bool, true, false, not, length, slice_get, slice_index, All, Some, inl, inr, refl, sym, ap, ◌∙◌, arith}
 use Rattle.std.proofs.lemmas.Option.{same_Some}
 use Rattle.std.proofs.lemmas.Bool.{true≢false, cases_lt}
 use Rattle.lrc_base.specs.declared.grammar.Attr.{Attr}
 use Rattle.lrc_meaning.specs.Grammar.{Grammar, attrs_of_sort}
-use Rattle.lrc_graph.specs.Pairs.{Path, step, onward}
 use Rattle.lrc_order.specs.declared.Partition.{Partition}
-use Rattle.lrc_order.specs.Sets.{is_of_inherited, HasTurn, InGreatest, Placed, InSet, IsVisitOf, Before}
+use Rattle.lrc_order.specs.Sets.{is_of_inherited, HasTurn, Placed, InSet}
 use Rattle.lrc_order.specs.Ordered.{Partitions, ArePartitions, IsPartition, IsGivenThere}
 use Rattle.lrc_order.proofs.GreatestLemmas.{greatest_turn}
-use Rattle.lrc_order.proofs.TurnLemmas.{sets_in_turn}
-use Rattle.lrc_order.proofs.SetLemmas.{placed-later}
 use Rattle.lrc_sequence.proofs.ExtendedLemmas.{partition_of}
 
 even_over : (k : ℕ) → (is_of_inherited k ≡ true → k % 2 ≡ 0) × (is_of_inherited k ≡ false → k % 2 ≡ 1)

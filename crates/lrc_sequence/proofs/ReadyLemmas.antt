@@ -1,12 +1,12 @@
 -- Each action of a segment finds what it needs among what its visit is called with and what was made before it.
-use Rattle.std.proofs.Common.{◌≡◌, ℕ, zero, suc, ◌+◌, ◌-◌, ◌<◌, ◌≤◌, Bool, true, false, ◌&&◌, IsTrue, List, [], ◌∷◌, ◌++◌, length, map, get_or, All, Contains, ◌==◌, Option, Some, None, ◌⊎◌, inl, inr, refl, sym, ap, ◌∙◌, subst, append_assoc, append-nil, length-append, arith}
+use Rattle.std.proofs.Common.{◌≡◌, ℕ, zero, suc, ◌+◌, ◌-◌, ◌<◌, ◌≤◌, Bool, true, false, ◌&&◌, List, [], ◌∷◌, ◌++◌, length, map, get_or, All, Contains, ◌==◌, Option, Some, None, inl, inr, refl, sym, ap, ◌∙◌, subst, append_assoc, append-nil, length-append, arith}
 use Rattle.std.specs.Prelude.{filter, flat_map}
 use Rattle.std.specs.Option.{option_map}
 use Rattle.std.specs.List.{list_all, range_with_len}
-use Rattle.std.proofs.lemmas.Bool.{and_parts, cases_eq, true≢false}
+use Rattle.std.proofs.lemmas.Bool.{and_parts, cases_eq}
 use Rattle.std.proofs.lemmas.List.Concat.{flat_map-append}
 use Rattle.std.proofs.lemmas.List.{get_or_append_left, map-append}
-use Rattle.std.proofs.lemmas.List.Elements.{filter-append, All-contains, All-filter, filter_passes, Contains-append_left, Contains-append_right, Contains-append_cases}
+use Rattle.std.proofs.lemmas.List.Elements.{filter-append, All-contains, filter_passes, Contains-append_left, Contains-append_right, Contains-append_cases}
 use Rattle.std.proofs.Math.Seq.{get_or-append_seam}
 use Rattle.lrc_base.specs.declared.grammar.Sort.{Sort}
 use Rattle.lrc_base.specs.declared.grammar.Production.{Production}
@@ -17,7 +17,7 @@ use Rattle.lrc_sequence.specs.declared.Action.{Action}
 use Rattle.lrc_sequence.specs.declared.Action.TheVariants as a
 use Rattle.lrc_sequence.specs.declared.Bound.{Bound}
 use Rattle.lrc_sequence.specs.declared.Bound.TheVariants as item
-use Rattle.lrc_sequence.specs.Items.{is_among, visits_of, values_of_visit, needs, makes, awaits, firsts_of, extended_of, ordered_at}
+use Rattle.lrc_sequence.specs.Items.{is_among, visits_of, values_of_visit, needs, makes, awaits, firsts_of, ordered_at}
 use Rattle.lrc_sequence.specs.Sequences.{State, pick, is_ready, did, greedy, entered, actions_of, segments_from, segments_of, segment}
 use Rattle.lrc_sequence.specs.Bindings.{items_of, gained, used, binding}
 use Rattle.lrc_sequence.specs.Sound.{handed_in, AreReady}
@@ -71,9 +71,10 @@ module _ (sorts : List Sort) (parts : List Partition) (p : Production) where
   -- one action more at the end
   ready_more : (A : List Bound) (xs : List Action) (x : Action) → AreReady sorts parts p A xs → All (Contains (A ++ made_by xs)) (needs sorts parts p x) → AreReady sorts parts p A (xs ++ x ∷ [])
   ready_more A [] x ready needed = (subst (λ ys. All (Contains ys) (needs sorts parts p x)) (append-nil A) needed, tt)
-  ready_more A (y ∷ ys) x ready needed =
-      (ready.0,
-      ready_more (A ++ makes sorts parts p y) ys x ready.1 (subst (λ zs. All (Contains zs) (needs sorts parts p x)) (sym (append_assoc A (makes sorts parts p y) (made_by ys))) needed))
+  ready_more A (y ∷ ys) x ready needed = (
+    ready.0,
+    ready_more (A ++ makes sorts parts p y) ys x ready.1 (subst (λ zs. All (Contains zs) (needs sorts parts p x)) (sym (append_assoc A (makes sorts parts p y) (made_by ys))) needed),
+  )
 
   -- with other items at the start, among which is all that is needed of the old ones
   ready_with : (A B : List Bound) (xs : List Action) → AreReady sorts parts p A xs → ((y : Bound) → Contains A y → Contains (flat_map (needs sorts parts p) xs) y → Contains B y) → AreReady sorts parts p B xs
@@ -83,11 +84,11 @@ module _ (sorts : List Sort) (parts : List Partition) (p : Production) where
         let y = get_or (needs sorts parts p x) k d in
         enough y (ready.0 k d less) (Contains-append_left (needs sorts parts p x) (flat_map (needs sorts parts p) xs) y (k, less, same_item (needs sorts parts p x) k y d less)),
     ready_with (A ++ makes sorts parts p x) (B ++ makes sorts parts p x) xs ready.1
-    (λ y m used.
-    elim (Contains-append_cases A (makes sorts parts p x) y m) [
-      | inl old ↦ Contains-append_left B (makes sorts parts p x) y (enough y old (Contains-append_right (needs sorts parts p x) (flat_map (needs sorts parts p) xs) y used))
-      | inr new ↦ Contains-append_right B (makes sorts parts p x) y new
-    ]),
+        (λ y m used.
+        elim (Contains-append_cases A (makes sorts parts p x) y m) [
+          | inl old ↦ Contains-append_left B (makes sorts parts p x) y (enough y old (Contains-append_right (needs sorts parts p x) (flat_map (needs sorts parts p) xs) y used))
+          | inr new ↦ Contains-append_right B (makes sorts parts p x) y new
+        ]),
   )
 
   -- while a segment runs, what is available is what was at its start and what its actions made

@@ -1,5 +1,5 @@
 -- When the plan of a production is sound: over lists of items alone, with no values.
-use Rattle.std.specs.Prelude.{◌≡◌, ℕ, ◌+◌, ◌-◌, ◌<◌, ◌≤◌, IsTrue, true, false, List, [], ◌∷◌, ◌++◌, flat_map, length, All, AllPairs, Contains, ◌↔◌, ⊤}
+use Rattle.std.specs.Prelude.{◌≡◌, ℕ, ◌-◌, ◌<◌, ◌≤◌, IsTrue, true, false, List, [], ◌∷◌, ◌++◌, flat_map, length, All, AllPairs, Contains, ◌↔◌, ⊤}
 use Rattle.std.specs.List.{range_with_len}
 use Rattle.lrc_base.specs.declared.grammar.Sort.{Sort}
 use Rattle.lrc_base.specs.declared.grammar.Production.{Production}
@@ -10,7 +10,7 @@ use Rattle.lrc_sequence.specs.declared.Action.{Action}
 use Rattle.lrc_sequence.specs.declared.Action.TheVariants as a
 use Rattle.lrc_sequence.specs.declared.Bound.{Bound}
 use Rattle.lrc_sequence.specs.Items.{visits_of, values_of_visit, symbol_at, needs, makes}
-use Rattle.lrc_sequence.specs.Sequences.{is_defined, segments_of, segment}
+use Rattle.lrc_sequence.specs.Sequences.{is_defined, segment}
 use Rattle.lrc_sequence.specs.Bindings.{gained, binding}
 
 module _ (sorts : List Sort) (parts : List Partition) (p : Production) where
