@@ -1,5 +1,5 @@
 -- Bindings by sets are those of the definition.
-use Rattle.std.proofs.Common.{◌≡◌, ℕ, zero, suc, ◌+◌, ◌-◌, ◌<◌, ◌≤◌, Bool, true, false, ◌&&◌, List, [], ◌∷◌, ◌++◌, length, map, take, get_or, All, refl, sym, ap, ◌∙◌, subst, arith}
+use Rattle.std.proofs.Common.{◌≡◌, ℕ, zero, suc, ◌+◌, ◌-◌, ◌<◌, ◌≤◌, true, false, ◌&&◌, List, [], ◌∷◌, ◌++◌, length, map, take, get_or, All, refl, sym, ap, ◌∙◌, subst, arith}
 use Rattle.std.specs.Prelude.{filter, flat_map, slice_index}
 use Rattle.std.specs.List.{range_with_len}
 use Rattle.std.proofs.lemmas.List.{map-append, take_more, get_or-map, length-map}
@@ -15,7 +15,7 @@ use Rattle.lrc_sequence.specs.declared.Action.{Action}
 use Rattle.lrc_sequence.specs.declared.Bound.{Bound}
 use Rattle.lrc_sequence.specs.declared.Bound.TheVariants as b
 use Rattle.lrc_sequence.specs.declared.Step.{Step}
-use Rattle.lrc_sequence.specs.Items.{is_among, visits_of, values_of_visit, symbol_at, needs, makes}
+use Rattle.lrc_sequence.specs.Items.{is_among, visits_of, values_of_visit, symbol_at}
 use Rattle.lrc_sequence.specs.Sequences.{actions_of, segments_of, segment}
 use Rattle.lrc_sequence.specs.Bindings.{bindings_at, items_of, gained, used, binding}
 use Rattle.lrc_sequence.specs.Plans.{step_of, bindings_from, bindings_of}
@@ -24,7 +24,6 @@ use Rattle.lrc_sequence.proofs.GreedyLemmas.{segments_count, segments_are_of}
 use Rattle.lrc_plan.specs.ItemSets.{Flags, holds, IsSetOf}
 use Rattle.lrc_plan.specs.Handing.{no_items, listed_items, shared, shared_from, all_shared}
 use Rattle.lrc_plan.specs.Gaining.{shape_of, gained_by, used_by, AreSetsOf}
-use Rattle.lrc_plan.proofs.WaitingLemmas.{map_twice}
 
 pub mapped_more : {X Y : Type 0} (f : X → Y) (xs : List X) (i : ℕ) (x : X) (ys now : List Y) (y : Y) → i < length xs → x ≡ get_or xs i x → ys ≡ map f (take i xs)
     → now ≡ ys ++ y ∷ [] → y ≡ f x → now ≡ map f (take (i + 1) xs)

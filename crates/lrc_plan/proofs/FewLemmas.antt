@@ -1,5 +1,5 @@
 -- A production of a grammar has few occurrences and symbols, and an empty set of its shape has room for its items.
-use Rattle.std.proofs.Common.{◌≡◌, ℕ, ◌+◌, ◌<◌, ◌≤◌, ◌^◌, Bool, true, false, cond, IsTrue, List, [], ◌∷◌, ◌++◌, length, map, get_or, All, Contains, Option, Some, None, refl, length-append, arith, zero-le}
+use Rattle.std.proofs.Common.{◌≡◌, ℕ, ◌+◌, ◌<◌, ◌≤◌, ◌^◌, Bool, true, false, cond, IsTrue, List, [], ◌∷◌, length, map, get_or, All, Contains, Option, Some, None, length-append, arith, zero-le}
 use Rattle.std.specs.Prelude.{nat_le}
 use Rattle.std.proofs.lemmas.Bool.{and_parts, leb-true}
 use Rattle.std.proofs.lemmas.List.Elements.{All-contains, All-map, All-weaker}
@@ -19,13 +19,12 @@ use Rattle.lrc_ordered.proofs.PlaceLemmas.{IsWithin, places_within}
 use Rattle.lrc_ordered.proofs.RangeLemmas.{all_pass}
 use Rattle.lrc_ordered.proofs.OrderLemmas.{few_attrs}
 use Rattle.lrc_ordered.proofs.SmallLemmas.{few_is_small}
-use Rattle.lrc_sequence.specs.declared.Bound.{Bound}
 use Rattle.lrc_sequence.specs.Items.{values_of_visit, extended_of}
 use Rattle.lrc_sequence.specs.Sequences.{actions_of}
 use Rattle.lrc_plan.specs.declared.waiting.Waiting.{Waiting}
 use Rattle.lrc_plan.specs.Waiting.{waiting_of}
 use Rattle.lrc_plan.specs.ItemSets.{Flags, HasRoom, HasRoomFor}
-use Rattle.lrc_plan.specs.Gaining.{shape_of, IsIn}
+use Rattle.lrc_plan.specs.Gaining.{shape_of}
 use Rattle.lrc_plan.proofs.InLemmas.{production_is_right, has_room, left_values_in, actions_in, IsActionIn, extended_in}
 
 -- a grammar has few sorts, and each has few attributes

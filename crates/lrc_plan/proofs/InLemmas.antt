@@ -1,5 +1,5 @@
 -- Items of a well-formed production are numbered as its shape says.
-use Rattle.std.proofs.Common.{◌≡◌, ℕ, zero, suc, ◌+◌, ◌-◌, ◌<◌, ◌≤◌, Bool, true, false, ◌&&◌, ◌==◌, IsTrue, List, [], ◌∷◌, ◌++◌, length, map, get_or, All, Contains, Option, Some, None, refl, sym, ap, ◌∙◌, subst, arith}
+use Rattle.std.proofs.Common.{◌≡◌, ℕ, suc, ◌+◌, ◌-◌, ◌<◌, ◌≤◌, Bool, true, false, ◌&&◌, ◌==◌, IsTrue, List, [], ◌∷◌, ◌++◌, length, map, All, Contains, Option, Some, None, refl, sym, subst, arith}
 use Rattle.std.specs.Prelude.{filter, flat_map, slice_index}
 use Rattle.std.specs.Option.{option_map_or}
 use Rattle.std.specs.List.{range_with_len}
@@ -123,23 +123,24 @@ module _ (sorts : List Sort) (parts : List Partition) (prods : List Production) 
       (in_range (λ v. IsActionIn (a.Visit s v)) 1 n (λ v one le. (taken_in s v there (omega arith), given_in s v there (omega arith)))))))
 
   -- extended dependencies are of occurrences
-  ordered_in : (place : Place) → IsWithin sorts total place → All (λ (n : Need). n.then < total) (ordered_at sorts parts place)
+  ordered_in : (place : Place) → IsWithin sorts total place → All (IsNeedWithin total) (ordered_at sorts parts place)
   ordered_in place within =
-      let P : Need → Type 0 = λ (n : Need). n.then < total in
       let count = length (attrs_of_sort sorts place.sort) in
-      all_flat (λ x. map (λ y. need (place.start + x) (place.start + y)) (filter (comes_before parts place.sort x) (range_with_len 0 count))) P (range_with_len 0 count)
-      (in_range (λ x. All P (map (λ y. need (place.start + x) (place.start + y)) (filter (comes_before parts place.sort x) (range_with_len 0 count)))) 0 count
+      all_flat (λ x. map (λ y. need (place.start + x) (place.start + y)) (filter (comes_before parts place.sort x) (range_with_len 0 count))) (IsNeedWithin total) (range_with_len 0 count)
+      (in_range (λ x. All (IsNeedWithin total) (map (λ y. need (place.start + x) (place.start + y)) (filter (comes_before parts place.sort x) (range_with_len 0 count)))) 0 count
       (λ x low less.
-      All-map P (λ y. need (place.start + x) (place.start + y)) (filter (comes_before parts place.sort x) (range_with_len 0 count))
-      (All-filter (comes_before parts place.sort x) (λ y. P (need (place.start + x) (place.start + y))) (range_with_len 0 count)
-      (in_range (λ y. P (need (place.start + x) (place.start + y))) 0 count (λ y low2 less2. omega arith)))))
+      All-map (IsNeedWithin total) (λ y. need (place.start + x) (place.start + y)) (filter (comes_before parts place.sort x) (range_with_len 0 count))
+      (All-filter (comes_before parts place.sort x) (λ y. IsNeedWithin total (need (place.start + x) (place.start + y))) (range_with_len 0 count)
+      (in_range (λ y. IsNeedWithin total (need (place.start + x) (place.start + y))) 0 count (λ y low2 less2. (omega arith, omega arith))))))
+
+  pub extended_within : All (IsNeedWithin total) (extended_of sorts parts p)
+  extended_within =
+      All-append (IsNeedWithin total) (needs_of sorts p) (flat_map (ordered_at sorts parts) (places_of sorts p)) (needs_within sorts prods p right)
+      (all_flat (ordered_at sorts parts) (IsNeedWithin total) (places_of sorts p)
+      (All-weaker (IsWithin sorts total) (λ place. All (IsNeedWithin total) (ordered_at sorts parts place)) ordered_in (places_of sorts p) (places_within sorts p)))
 
   pub extended_in : All (λ (n : Need). n.then < total) (extended_of sorts parts p)
-  extended_in =
-      All-append (λ (n : Need). n.then < total) (needs_of sorts p) (flat_map (ordered_at sorts parts) (places_of sorts p))
-      (All-weaker (IsNeedWithin total) (λ (n : Need). n.then < total) (λ n h. h.1) (needs_of sorts p) (needs_within sorts prods p right))
-      (all_flat (ordered_at sorts parts) (λ (n : Need). n.then < total) (places_of sorts p)
-      (All-weaker (IsWithin sorts total) (λ place. All (λ (n : Need). n.then < total) (ordered_at sorts parts place)) ordered_in (places_of sorts p) (places_within sorts p)))
+  extended_in = All-weaker (IsNeedWithin total) (λ (n : Need). n.then < total) (λ n h. h.1) (extended_of sorts parts p) extended_within
 
 pub production_is_right : (g : Grammar) → IsTrue (is_well_formed g) → (p : Production) → Contains g.prods p → is_production_right g.sorts g.prods p ≡ true
 production_is_right g well p there = All-contains (λ q. is_production_right g.sorts g.prods q ≡ true) g.prods p (production_right g well) there

@@ -11,3 +11,11 @@ pub mod BindingLemmas
 pub mod FewLemmas
 pub mod ReadLemmas
 pub mod ListedLemmas
+pub mod OccurrenceLemmas
+pub mod EndLemmas
+pub mod TurnLemmas
+pub mod DecidedLemmas
+pub mod TraceLemmas
+pub mod BackLemmas
+pub mod GivesLemmas
+pub mod CompleteLemmas

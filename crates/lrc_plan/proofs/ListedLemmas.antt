@@ -1,5 +1,5 @@
 -- What an action needs is among the items of its production, so that its visits can be made one after another.
-use Rattle.std.proofs.Common.{◌≡◌, ℕ, suc, ◌+◌, ◌-◌, ◌<◌, ◌≤◌, true, false, ◌==◌, IsTrue, List, [], ◌∷◌, ◌++◌, length, map, All, Contains, Option, Some, None, refl, arith}
+use Rattle.std.proofs.Common.{◌≡◌, ℕ, suc, ◌+◌, ◌-◌, ◌<◌, ◌≤◌, true, ◌==◌, IsTrue, List, [], ◌∷◌, ◌++◌, length, map, All, Contains, Option, Some, None, refl, arith}
 use Rattle.std.specs.Prelude.{filter, flat_map}
 use Rattle.std.specs.Option.{option_map_or}
 use Rattle.std.specs.List.{range_with_len}
@@ -11,7 +11,7 @@ use Rattle.lrc_order.specs.declared.Need.{Need}
 use Rattle.lrc_order.specs.declared.Partition.{Partition}
 use Rattle.lrc_order.specs.declared.Place.{Place}
 use Rattle.lrc_order.specs.Needs.{symbols_of, left_place, places_of, equation_needs, tree_needs}
-use Rattle.lrc_ordered.proofs.PlaceLemmas.{IsWithin, places_within}
+use Rattle.lrc_ordered.proofs.PlaceLemmas.{places_within}
 use Rattle.lrc_ordered.proofs.RangeLemmas.{all_flat, IsPlaced, places_placed, IsNeedWithin, needs_within}
 use Rattle.lrc_sequence.specs.declared.Action.{Action}
 use Rattle.lrc_sequence.specs.declared.Action.TheVariants as a
@@ -27,16 +27,16 @@ use Rattle.lrc_plan.proofs.PairLemmas.{all_front}
 use Rattle.lrc_plan.proofs.InLemmas.{in_range, values_in, production_is_right}
 
 module _ (sorts : List Sort) (parts : List Partition) (prods : List Production) (p : Production) (right : is_production_right sorts prods p ≡ true) where
-  abbrev total : ℕ
+  abbrev pub total : ℕ
   total = length (occurrences_of sorts p)
 
-  abbrev Listed : Bound → Type 0
+  abbrev pub Listed : Bound → Type 0
   Listed = Contains (items_of sorts parts p)
 
   abbrev visits_at_symbol : ℕ → ℕ
   visits_at_symbol s = visits_of parts (symbol_at sorts p s).sort
 
-  value_listed : (o : ℕ) → o < total → Listed (b.Value o)
+  pub value_listed : (o : ℕ) → o < total → Listed (b.Value o)
   value_listed o less =
       Contains-append_left (map b.Value (range_with_len 0 total)) (flat_map (λ s. bindings_at s (visits_at_symbol s)) (range_with_len 0 (length (symbols_of sorts p)))) (b.Value o)
       (in_map b.Value (range_with_len 0 total) o (in_row 0 total o (omega arith) (omega arith)))

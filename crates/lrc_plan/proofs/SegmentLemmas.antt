@@ -1,17 +1,16 @@
 -- One segment more of a production.
-use Rattle.std.proofs.Common.{◌≡◌, ℕ, zero, suc, ◌+◌, ◌-◌, ◌<◌, ◌≤◌, Bool, true, false, IsTrue, List, [], ◌∷◌, ◌++◌, length, map, take, get_or, All, Contains, ◌⊎◌, ◌↔◌, inl, inr, refl, sym, ap, ◌∙◌, subst, append_assoc, append-nil, arith}
+use Rattle.std.proofs.Common.{◌≡◌, ℕ, suc, ◌+◌, ◌-◌, ◌<◌, ◌≤◌, true, IsTrue, List, [], ◌∷◌, ◌++◌, length, map, get_or, All, Contains, ◌⊎◌, ◌↔◌, inl, inr, refl, sym, ap, ◌∙◌, subst, append_assoc, append-nil, arith}
 use Rattle.std.proofs.lemmas.List.Elements.{Contains-append_left, Contains-append_right, Contains-append_cases, All-map}
 use Rattle.lrc_base.specs.declared.grammar.Sort.{Sort}
 use Rattle.lrc_base.specs.declared.grammar.Production.{Production}
 use Rattle.lrc_order.specs.declared.Partition.{Partition}
-use Rattle.lrc_sequence.specs.declared.Action.{Action}
 use Rattle.lrc_sequence.specs.declared.Bound.{Bound}
 use Rattle.lrc_sequence.specs.declared.Step.{Step}
 use Rattle.lrc_sequence.specs.Items.{visits_of, values_of_visit}
 use Rattle.lrc_sequence.specs.Plans.{step_of}
 use Rattle.lrc_sequence.specs.Sequences.{State, greedy, entered, actions_of, segments_from, segments_of}
 use Rattle.lrc_plan.specs.declared.waiting.Waiting.{Waiting}
-use Rattle.lrc_plan.specs.ItemSets.{Flags, holds, HasRoom, IsSetOf}
+use Rattle.lrc_plan.specs.ItemSets.{Flags, holds, HasRoom}
 use Rattle.lrc_plan.specs.Waiting.{waiting_of}
 use Rattle.lrc_plan.specs.Running.{unchecked, IsChecked, IsLeft, StandsFor, StandsAt, FoundSo}
 use Rattle.lrc_plan.proofs.ReadyLemmas.{still_checked}
@@ -41,7 +40,7 @@ module _ (sorts : List Sort) (parts : List Partition) (p : Production) where
       left_is = ap (map unchecked) is ∙ map_twice unchecked (waiting_of sorts parts p) (actions_of sorts parts p);
       available_is = λ x. (λ h. absurd (empty x h), λ m. let l = m.1 in absurd (omega arith));
     };
-    rest = 
+    rest =
         let e : visits_of parts p.left - 0 ≡ visits_of parts p.left = omega arith in
         rw (none, e) refl;
   }

@@ -1,12 +1,8 @@
 -- What a plan keeps: its sequences and bindings follow from the grammar and the partitions.
-use Rattle.std.specs.Prelude.{◌≡◌, ℕ, ◌<◌, ◌≤◌, List, map}
+use Rattle.std.specs.Prelude.{ℕ, ◌≤◌}
 use Rattle.lrc_base.specs.declared.grammar.Production.{Production}
-use Rattle.lrc_grammar.specs.declared.grammar.Grammar.{Grammar}
-use Rattle.lrc_grammar.specs.Grammar.{grammar_of}
-use Rattle.lrc_order.specs.Ordered.{Partitions, ArePartitions}
-use Rattle.lrc_sequence.specs.declared.Sequences.{Sequences}
+use Rattle.lrc_order.specs.Ordered.{Partitions}
 use Rattle.lrc_sequence.specs.Items.{visits_of}
-use Rattle.lrc_sequence.specs.Plans.{sequences_of}
 
 -- a visit of the left side of a production
 pub record IsVisit (parts : Partitions) (p : Production) (v : ℕ) : Type 0 where

@@ -10,20 +10,20 @@ mod names;
 mod pairs;
 mod parts;
 mod parts_texts;
+mod plan_texts;
 mod planning;
 mod segments;
 mod sequenced;
 mod sequences;
-mod plan_texts;
 mod visit_table;
 mod visits;
 mod waiting;
 
 pub use lrc_sequence::{Action, Bound, Sequences, Step};
 pub use parts_texts::parts_text;
+pub use plan_texts::plan_text;
 pub use planning::plan;
 pub use sequenced::Plan;
-pub use plan_texts::plan_text;
 
 #[cfg(test)]
 mod tests;

@@ -60,7 +60,12 @@ fn push_extra(
 {
     names.push(List::from_slice(alloc, extra.name.bytes())?)?;
     if extra.attached {
-        push_attributes(alloc, names, extra.name.bytes(), attrs_of(sorts, extra.kind))?;
+        push_attributes(
+            alloc,
+            names,
+            extra.name.bytes(),
+            attrs_of(sorts, extra.kind),
+        )?;
     }
     Ok(())
 }

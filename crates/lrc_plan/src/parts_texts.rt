@@ -1,6 +1,5 @@
 ghost use Rattle.std.specs.Prelude.{◌≡◌, ◌+◌, ◌<◌, ◌≤◌, ◌^◌, ◌++◌, codes, length, map, flat_map, true, false, IfOk, OnOk};
 ghost use Rattle.std.specs.List.{range_with_len};
-
 ghost use Rattle.lrc_grammar.specs.Grammar.{grammar_of};
 ghost use Rattle.lrc_meaning.specs.Grammar.{attrs_of_sort};
 ghost use Rattle.lrc_sequence.specs.Items.{attrs_of_visit, visits_of};

@@ -76,11 +76,7 @@ fn push_bound(text: &mut Vec<u8>, names: &Names, item: Bound) -> Result<(), Memo
 }
 
 /// Appends actions, each behind `; `.
-fn push_more_actions(
-    text: &mut Vec<u8>,
-    names: &Names,
-    actions: &[Action],
-) -> Result<(), Memory>
+fn push_more_actions(text: &mut Vec<u8>, names: &Names, actions: &[Action]) -> Result<(), Memory>
     ensures { OnOk result (text.new.items ≡ text.old.items ++ more_actions names.now.occurrences names.now.symbols actions.now) }
 {
     'actions: for action in actions {
@@ -143,11 +139,7 @@ fn push_segment(
 }
 
 /// Appends the lines of segments.
-fn push_segments(
-    text: &mut Vec<u8>,
-    names: &Names,
-    segments: &[List<Action>],
-) -> Result<(), Memory>
+fn push_segments(text: &mut Vec<u8>, names: &Names, segments: &[List<Action>]) -> Result<(), Memory>
     ensures { OnOk result (text.new.items ≡ text.old.items ++ segment_lines names.now.occurrences names.now.symbols segments.now) }
 {
     'segments: for earlier in 0..segments.len() {

@@ -81,7 +81,12 @@ fn none(alloc: Global) -> Result<Production, Fail> {
 }
 
 fn declaration(alloc: Global) -> Result<Production, Fail> {
-    let mut decl = production(alloc, b"Decl", 1, &[(b"n", Kind::Int), (b"rest", Kind::Sort(1))])?;
+    let mut decl = production(
+        alloc,
+        b"Decl",
+        1,
+        &[(b"n", Kind::Int), (b"rest", Kind::Sort(1))],
+    )?;
     let name = named(b"mine")?;
     decl.extras.push(Extra {
         name,
@@ -131,7 +136,8 @@ fn declarations_are_visited_twice(rt: HostRuntime) -> Result<(), Fail> {
     let wanted = b"Prog [>bad]\nItems [>decls] [env>bad]\n";
     assert!(rt; parts.as_slice() == wanted.as_slice());
     let text = plan_text(alloc, &plan)?;
-    let wanted = b"prod Top\n  1: visit b 1; eval b.env; visit b 2; eval bad\nprod None\n  1: eval decls\n  2: eval bad\n  bind 1 2:\nprod Decl\n  1: eval mine; visit rest 1; eval decls\n  2: eval rest.env; visit rest 2; eval bad\n  bind 1 2: mine; rest 1 2\n";
+    let wanted =
+        b"prod Top\n  1: visit b 1; eval b.env; visit b 2; eval bad\nprod None\n  1: eval decls\n  2: eval bad\n  bind 1 2:\nprod Decl\n  1: eval mine; visit rest 1; eval decls\n  2: eval rest.env; visit rest 2; eval bad\n  bind 1 2: mine; rest 1 2\n";
     assert!(rt; text.as_slice() == wanted.as_slice());
     Ok(())
 }
@@ -230,7 +236,8 @@ fn names_are_looked_up_in_attached_trees(rt: HostRuntime) -> Result<(), Fail> {
     let wanted = b"Prog [>val]\nExp [env>val]\nEnv [key>found]\n";
     assert!(rt; parts.as_slice() == wanted.as_slice());
     let text = plan_text(alloc, &plan)?;
-    let wanted = b"prod Root\n  1: eval e.env; visit e 1; eval val\nprod Var\n  1: eval look; eval look.key; visit look 1; eval val\nprod Let\n  1: eval e.env; visit e 1; eval b.env; visit b 1; eval val\nprod Empty\n  1: eval found\nprod Bind\n  1: eval rest.key; visit rest 1; eval found\n";
+    let wanted =
+        b"prod Root\n  1: eval e.env; visit e 1; eval val\nprod Var\n  1: eval look; eval look.key; visit look 1; eval val\nprod Let\n  1: eval e.env; visit e 1; eval b.env; visit b 1; eval val\nprod Empty\n  1: eval found\nprod Bind\n  1: eval rest.key; visit rest 1; eval found\n";
     assert!(rt; text.as_slice() == wanted.as_slice());
     Ok(())
 }

@@ -102,13 +102,7 @@ fn evaluations(
     let pairs = extended(alloc, sorts, parts, production, places)?;
     let awaits = firsts(alloc, pairs.as_slice(), occurrences.len())?;
     let mut waiting = Vec::new(alloc);
-    push_evaluations(
-        alloc,
-        &mut waiting,
-        occurrences.as_slice(),
-        &needs,
-        &awaits,
-    )?;
+    push_evaluations(alloc, &mut waiting, occurrences.as_slice(), &needs, &awaits)?;
     Ok(waiting)
 }
 
@@ -151,14 +145,7 @@ fn push_visits(
     ensures { OnOk result (waiting.new.items ≡ waiting.old.items ++ map (waiting_visit sorts.now parts.now place symbol) (range_with_len 1 (visits_of parts.now place.sort))) }
 {
     'visits: for earlier in 0..visits_of(parts, place.sort) {
-        waiting.push(waiting_visit(
-            alloc,
-            sorts,
-            parts,
-            place,
-            symbol,
-            earlier + 1,
-        )?)?;
+        waiting.push(waiting_visit(alloc, sorts, parts, place, symbol, earlier + 1)?)?;
     }
     Ok(())
 }

@@ -1,12 +1,11 @@
 -- The pairs that are read off partitions are the extended dependencies.
-use Rattle.std.proofs.Common.{◌≡◌, ℕ, suc, ◌+◌, ◌<◌, Bool, true, false, IsTrue, List, [], length, map, get_or, slice_get, All, Contains, Some, ◌⊎◌, ◌↔◌, inl, inr, refl, sym, ap, ◌∙◌, subst, arith}
+use Rattle.std.proofs.Common.{◌≡◌, ℕ, suc, ◌+◌, ◌<◌, true, false, length, map, slice_get, All, Contains, Some, ◌↔◌, inl, inr, sym, ap, ◌∙◌, arith}
 use Rattle.std.specs.Prelude.{filter, flat_map}
 use Rattle.std.specs.Option.{option_map_or}
 use Rattle.std.specs.List.{range_with_len}
 use Rattle.std.proofs.lemmas.Option.{slice_get_cases}
 use Rattle.std.proofs.lemmas.List.Elements.{All-contains, Contains-append_left, Contains-append_right, Contains-append_cases}
 use Rattle.lrc_base.specs.declared.grammar.Production.{Production}
-use Rattle.lrc_base.specs.declared.grammar.Given.{Given}
 use Rattle.lrc_meaning.specs.Grammar.{Grammar, attrs_of_sort}
 use Rattle.lrc_graph.specs.Pairs.{paired}
 use Rattle.lrc_order.specs.declared.Need.{Need}
@@ -14,7 +13,7 @@ use Rattle.lrc_order.specs.declared.Partition.{Partition}
 use Rattle.lrc_order.specs.declared.Place.{Place}
 use Rattle.lrc_order.specs.Needs.{need, needs_of, places_of}
 use Rattle.lrc_order.specs.Sets.{Before}
-use Rattle.lrc_order.specs.Extended.{Extended, ByPlace}
+use Rattle.lrc_order.specs.Extended.{Extended}
 use Rattle.lrc_order.specs.Ordered.{Partitions, ArePartitions, IsPartition, IsGivenThere}
 use Rattle.lrc_order.proofs.TransitiveLemmas.{has_place}
 use Rattle.lrc_order.proofs.TurnLemmas.{placed_within}

@@ -1,12 +1,12 @@
 -- Each action of a segment finds what it needs among what its visit is called with and what was made before it.
-use Rattle.std.proofs.Common.{◌≡◌, ℕ, zero, suc, ◌+◌, ◌-◌, ◌<◌, ◌≤◌, Bool, true, false, ◌&&◌, IsTrue, List, [], ◌∷◌, ◌++◌, length, map, get_or, All, Contains, ◌==◌, Option, Some, None, ◌⊎◌, inl, inr, refl, sym, ap, ◌∙◌, subst, append_assoc, append-nil, length-append, arith}
+use Rattle.std.proofs.Common.{◌≡◌, ℕ, zero, suc, ◌+◌, ◌-◌, ◌<◌, ◌≤◌, Bool, true, false, ◌&&◌, List, [], ◌∷◌, ◌++◌, length, map, get_or, All, Contains, ◌==◌, Option, Some, None, inl, inr, refl, sym, ap, ◌∙◌, subst, append_assoc, append-nil, length-append, arith}
 use Rattle.std.specs.Prelude.{filter, flat_map}
 use Rattle.std.specs.Option.{option_map}
 use Rattle.std.specs.List.{list_all, range_with_len}
-use Rattle.std.proofs.lemmas.Bool.{and_parts, cases_eq, true≢false}
+use Rattle.std.proofs.lemmas.Bool.{and_parts, cases_eq}
 use Rattle.std.proofs.lemmas.List.Concat.{flat_map-append}
 use Rattle.std.proofs.lemmas.List.{get_or_append_left, map-append}
-use Rattle.std.proofs.lemmas.List.Elements.{filter-append, All-contains, All-filter, filter_passes, Contains-append_left, Contains-append_right, Contains-append_cases}
+use Rattle.std.proofs.lemmas.List.Elements.{filter-append, All-contains, filter_passes, Contains-append_left, Contains-append_right, Contains-append_cases}
 use Rattle.std.proofs.Math.Seq.{get_or-append_seam}
 use Rattle.lrc_base.specs.declared.grammar.Sort.{Sort}
 use Rattle.lrc_base.specs.declared.grammar.Production.{Production}
@@ -17,7 +17,7 @@ use Rattle.lrc_sequence.specs.declared.Action.{Action}
 use Rattle.lrc_sequence.specs.declared.Action.TheVariants as a
 use Rattle.lrc_sequence.specs.declared.Bound.{Bound}
 use Rattle.lrc_sequence.specs.declared.Bound.TheVariants as item
-use Rattle.lrc_sequence.specs.Items.{is_among, visits_of, values_of_visit, needs, makes, awaits, firsts_of, extended_of, ordered_at}
+use Rattle.lrc_sequence.specs.Items.{is_among, visits_of, values_of_visit, needs, makes, awaits, firsts_of, ordered_at}
 use Rattle.lrc_sequence.specs.Sequences.{State, pick, is_ready, did, greedy, entered, actions_of, segments_from, segments_of, segment}
 use Rattle.lrc_sequence.specs.Bindings.{items_of, gained, used, binding}
 use Rattle.lrc_sequence.specs.Sound.{handed_in, AreReady}
@@ -31,7 +31,7 @@ all_contained available (x ∷ xs) h zero d less = contained available x (and_pa
 all_contained available (x ∷ xs) h (suc k) d less = all_contained available xs (and_parts (is_among available x) (list_all (is_among available) xs) h).1 k d (omega arith)
 
 -- the first that passes does
-abbrev Passes : (Action → Bool) → Option (Action × List Action) → Type 0
+abbrev pub Passes : (Action → Bool) → Option (Action × List Action) → Type 0
 Passes test None = Unit {0}
 Passes test (Some found) = test found.0 ≡ true
 
@@ -60,7 +60,7 @@ module _ (sorts : List Sort) (parts : List Partition) (p : Production) where
       firsts_front (Contains available) (flat_map equation_needs p.equations) (flat_map (tree_needs sorts) (places_of sorts p)) o
       (firsts_front (Contains available) (needs_of sorts p) (flat_map (ordered_at sorts parts) (places_of sorts p)) o all)
 
-  abbrev made_by : List Action → List Bound
+  abbrev pub made_by : List Action → List Bound
   made_by xs = flat_map (makes sorts parts p) xs
 
   made_more : (A : List Bound) (xs : List Action) (x : Action) → (A ++ made_by xs) ++ makes sorts parts p x ≡ A ++ made_by (xs ++ x ∷ [])
@@ -71,9 +71,10 @@ module _ (sorts : List Sort) (parts : List Partition) (p : Production) where
   -- one action more at the end
   ready_more : (A : List Bound) (xs : List Action) (x : Action) → AreReady sorts parts p A xs → All (Contains (A ++ made_by xs)) (needs sorts parts p x) → AreReady sorts parts p A (xs ++ x ∷ [])
   ready_more A [] x ready needed = (subst (λ ys. All (Contains ys) (needs sorts parts p x)) (append-nil A) needed, tt)
-  ready_more A (y ∷ ys) x ready needed =
-      (ready.0,
-      ready_more (A ++ makes sorts parts p y) ys x ready.1 (subst (λ zs. All (Contains zs) (needs sorts parts p x)) (sym (append_assoc A (makes sorts parts p y) (made_by ys))) needed))
+  ready_more A (y ∷ ys) x ready needed = (
+    ready.0,
+    ready_more (A ++ makes sorts parts p y) ys x ready.1 (subst (λ zs. All (Contains zs) (needs sorts parts p x)) (sym (append_assoc A (makes sorts parts p y) (made_by ys))) needed),
+  )
 
   -- with other items at the start, among which is all that is needed of the old ones
   ready_with : (A B : List Bound) (xs : List Action) → AreReady sorts parts p A xs → ((y : Bound) → Contains A y → Contains (flat_map (needs sorts parts p) xs) y → Contains B y) → AreReady sorts parts p B xs
@@ -83,19 +84,19 @@ module _ (sorts : List Sort) (parts : List Partition) (p : Production) where
         let y = get_or (needs sorts parts p x) k d in
         enough y (ready.0 k d less) (Contains-append_left (needs sorts parts p x) (flat_map (needs sorts parts p) xs) y (k, less, same_item (needs sorts parts p x) k y d less)),
     ready_with (A ++ makes sorts parts p x) (B ++ makes sorts parts p x) xs ready.1
-    (λ y m used.
-    elim (Contains-append_cases A (makes sorts parts p x) y m) [
-      | inl old ↦ Contains-append_left B (makes sorts parts p x) y (enough y old (Contains-append_right (needs sorts parts p x) (flat_map (needs sorts parts p) xs) y used))
-      | inr new ↦ Contains-append_right B (makes sorts parts p x) y new
-    ]),
+        (λ y m used.
+        elim (Contains-append_cases A (makes sorts parts p x) y m) [
+          | inl old ↦ Contains-append_left B (makes sorts parts p x) y (enough y old (Contains-append_right (needs sorts parts p x) (flat_map (needs sorts parts p) xs) y used))
+          | inr new ↦ Contains-append_right B (makes sorts parts p x) y new
+        ]),
   )
 
   -- while a segment runs, what is available is what was at its start and what its actions made
-  record RunsFrom (A : List Bound) (s : State) : Type 0 where
-    available : s.available ≡ A ++ made_by s.done
-    ready : AreReady sorts parts p A s.done
+  pub record RunsFrom (A : List Bound) (s : State) : Type 0 where
+    pub available : s.available ≡ A ++ made_by s.done
+    pub ready : AreReady sorts parts p A s.done
 
-  runs_on : (A : List Bound) (s : State) (found : Action × List Action) → pick (is_ready sorts parts p s.available) s.left ≡ Some found → RunsFrom A s → RunsFrom A (did sorts parts p s found)
+  pub runs_on : (A : List Bound) (s : State) (found : Action × List Action) → pick (is_ready sorts parts p s.available) s.left ≡ Some found → RunsFrom A s → RunsFrom A (did sorts parts p s found)
   runs_on A s found e runs =
       let test : is_ready sorts parts p s.available found.0 ≡ true = subst (Passes (is_ready sorts parts p s.available)) e (picked_passes (is_ready sorts parts p s.available) s.left) in
       let needed = needs_awaited s.available found.0 (all_contained s.available (awaits sorts parts p found.0) test) in
@@ -104,20 +105,20 @@ module _ (sorts : List Sort) (parts : List Partition) (p : Production) where
         ready = ready_more A s.done found.0 runs.ready (subst (λ xs. All (Contains xs) (needs sorts parts p found.0)) runs.available needed);
       }
 
-  abbrev count : ℕ
+  abbrev pub count : ℕ
   count = visits_of parts p.left
 
-  abbrev entering : ℕ → List Bound
+  abbrev pub entering : ℕ → List Bound
   entering v = values_of_visit sorts parts true p.left 0 v
 
   -- it became available in an earlier visit
-  record IsEarlier (v : ℕ) (y : Bound) : Type 0 where
-    visit : ℕ
-    first : 1 ≤ visit
-    before : visit < v
-    gained_there : Contains (gained sorts parts p visit (segment sorts parts p visit)) y
+  pub record IsEarlier (v : ℕ) (y : Bound) : Type 0 where
+    pub visit : ℕ
+    pub first : 1 ≤ visit
+    pub before : visit < v
+    pub gained_there : Contains (gained sorts parts p visit (segment sorts parts p visit)) y
 
-  segment_at : (pre rest : List (List Action)) (now : List Action) (v : ℕ) → segments_of sorts parts p ≡ pre ++ now ∷ rest → length pre + 1 ≡ v → segment sorts parts p v ≡ now
+  pub segment_at : (pre rest : List (List Action)) (now : List Action) (v : ℕ) → segments_of sorts parts p ≡ pre ++ now ∷ rest → length pre + 1 ≡ v → segment sorts parts p v ≡ now
   segment_at pre rest now v are size =
       let e : v - 1 ≡ length pre = omega arith in
       ap (λ n. get_or (segments_of sorts parts p) n []) e ∙ ap (λ (xs : List (List Action)). get_or xs (length pre) []) are ∙ get_or-append_seam pre now rest []

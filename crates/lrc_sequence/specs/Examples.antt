@@ -1,5 +1,5 @@
 -- A worked example: the visit sequences of the declarations grammar.
-use Rattle.std.specs.Prelude.{ℕ, Bool, true, false, pos, List, [], ◌∷◌, codes}
+use Rattle.std.specs.Prelude.{true, false, pos, List, [], ◌∷◌, codes}
 use Rattle.lrc_base.specs.declared.grammar.Kind.TheVariants as k
 use Rattle.lrc_base.specs.declared.grammar.Production.{Production}
 use Rattle.lrc_base.specs.declared.expr.Expr.TheVariants as e

@@ -7,7 +7,6 @@ use Rattle.std.specs.List.{list_all, range_with_len}
 use Rattle.lrc_base.specs.declared.grammar.Sort.{Sort}
 use Rattle.lrc_base.specs.declared.grammar.Production.{Production}
 use Rattle.lrc_meaning.specs.Grammar.{Occurrence, occurrences_of}
-use Rattle.lrc_order.specs.declared.Place.{Place}
 use Rattle.lrc_order.specs.declared.Partition.{Partition}
 use Rattle.lrc_order.specs.Needs.{symbols_of}
 use Rattle.lrc_sequence.specs.declared.Action.{Action}

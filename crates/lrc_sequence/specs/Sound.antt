@@ -1,5 +1,5 @@
 -- When the plan of a production is sound: over lists of items alone, with no values.
-use Rattle.std.specs.Prelude.{◌≡◌, ℕ, ◌+◌, ◌-◌, ◌<◌, ◌≤◌, IsTrue, true, false, List, [], ◌∷◌, ◌++◌, flat_map, length, All, AllPairs, Contains, ◌↔◌, ⊤}
+use Rattle.std.specs.Prelude.{◌≡◌, ℕ, ◌-◌, ◌<◌, ◌≤◌, IsTrue, true, false, List, [], ◌∷◌, ◌++◌, flat_map, length, All, AllPairs, Contains, ◌↔◌, ⊤}
 use Rattle.std.specs.List.{range_with_len}
 use Rattle.lrc_base.specs.declared.grammar.Sort.{Sort}
 use Rattle.lrc_base.specs.declared.grammar.Production.{Production}
@@ -10,7 +10,7 @@ use Rattle.lrc_sequence.specs.declared.Action.{Action}
 use Rattle.lrc_sequence.specs.declared.Action.TheVariants as a
 use Rattle.lrc_sequence.specs.declared.Bound.{Bound}
 use Rattle.lrc_sequence.specs.Items.{visits_of, values_of_visit, symbol_at, needs, makes}
-use Rattle.lrc_sequence.specs.Sequences.{is_defined, segments_of, segment}
+use Rattle.lrc_sequence.specs.Sequences.{is_defined, segment}
 use Rattle.lrc_sequence.specs.Bindings.{gained, binding}
 
 module _ (sorts : List Sort) (parts : List Partition) (p : Production) where
@@ -43,14 +43,19 @@ module _ (sorts : List Sort) (parts : List Partition) (p : Production) where
     pub hands_on : (v w : ℕ) → 1 ≤ v → v ≤ visits_of parts p.left
         → All (Contains (handed_in v ++ flat_map (makes sorts parts p) (segment sorts parts p v))) (binding sorts parts p v w)
 
-  -- Besides, every attribute is given, nothing becomes available twice, and every action is made.
-  pub record IsSound : Type 0 where
-    pub runs : IsReady
-    -- at the end of a visit its synthesised attributes are there
-    pub gives : (v : ℕ) → 1 ≤ v → v ≤ visits_of parts p.left
-        → All (Contains (handed_in v ++ flat_map (makes sorts parts p) (segment sorts parts p v))) (values_of_visit sorts parts false p.left 0 v)
-    -- no item becomes available twice, in one visit or in two
-    pub fresh : AllPairs (λ x y. ¬ (x ≡ y)) (flat_map (λ v. gained sorts parts p v (segment sorts parts p v)) (range_with_len 1 (visits_of parts p.left)))
-    -- each occurrence to be defined is evaluated, and each visit of each symbol is made
+  -- At the end of each visit its synthesised attributes are there.
+  abbrev pub GivesAll : Type 0
+  GivesAll = (v : ℕ) → 1 ≤ v → v ≤ visits_of parts p.left
+      → All (Contains (handed_in v ++ flat_map (makes sorts parts p) (segment sorts parts p v))) (values_of_visit sorts parts false p.left 0 v)
+
+  -- Each occurrence to be defined is evaluated, and each visit of each symbol is made.
+  pub record IsComplete : Type 0 where
     pub evaluates : (o : ℕ) → IsTrue (is_defined (occurrences_of sorts p) o) ↔ IsDone (a.Eval o)
     pub visits : (s v : ℕ) → IsVisitThere s v ↔ IsDone (a.Visit s v)
+
+  -- Besides, no item becomes available twice, in one visit or in two.
+  pub record IsSound : Type 0 where
+    pub runs : IsReady
+    pub gives : GivesAll
+    pub complete : IsComplete
+    pub fresh : AllPairs (λ x y. ¬ (x ≡ y)) (flat_map (λ v. gained sorts parts p v (segment sorts parts p v)) (range_with_len 1 (visits_of parts p.left)))

@@ -1,4 +1,4 @@
-use Rattle.std.proofs.Common.{◌+◌, map, arith}
+use Rattle.std.proofs.Common.{map}
 use Rattle.std.specs.Prelude.{slice_index}
 use Rattle.std.specs.List.{range_with_len}
 use Rattle.lrc_sequence.specs.declared.Bound.TheVariants as b

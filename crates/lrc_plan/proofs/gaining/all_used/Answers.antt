@@ -1,5 +1,4 @@
-use Rattle.std.proofs.Common.{◌≡◌, ◌<◌, ◌++◌, length, List, [], subst, ap, sym, ◌∙◌, arith}
-use Rattle.lrc_sequence.specs.declared.Step.{Step}
+use Rattle.std.proofs.Common.{◌<◌, length, [], ◌∙◌, arith}
 use Rattle.lrc_ordered.proofs.GatherLemmas.{same_item}
 use Rattle.lrc_plan.specs.Gaining.{used_by}
 use Rattle.lrc_plan.proofs.GainLemmas.{sets_more}

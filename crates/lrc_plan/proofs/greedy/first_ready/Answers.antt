@@ -1,4 +1,4 @@
-use Rattle.std.proofs.Common.{◌≡◌, ℕ, ◌<◌, false, true, All, inl, inr, sym, ap, subst, ◌∙◌, length, map, get_or, slice_set, arith, List}
+use Rattle.std.proofs.Common.{◌≡◌, ℕ, ◌<◌, false, true, inl, inr, sym, ap, subst, ◌∙◌, length, map, get_or, slice_set, arith, List}
 use Rattle.std.proofs.lemmas.Bool.{cases_eq}
 use Rattle.std.proofs.lemmas.List.{length-map, length-set}
 use Rattle.std.proofs.lemmas.List.Elements.{All-set}

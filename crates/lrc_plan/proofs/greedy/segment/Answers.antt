@@ -1,16 +1,10 @@
-use Rattle.std.proofs.Common.{◌≡◌, ℕ, ◌++◌, ◌∷◌, [], List, All, inl, inr, sym, ap, subst, ◌∙◌, length, get_or, map, refl, arith, IsTrue, Contains, ◌⊎◌, ◌↔◌, ◌+◌, ◌<◌}
+use Rattle.std.proofs.Common.{◌≡◌, List, All, inl, sym, ap, subst, ◌∙◌, length, get_or, IsTrue, Contains, ◌⊎◌, ◌↔◌}
 use Rattle.std.specs.Prelude.{remove}
-use Rattle.std.proofs.lemmas.List.{length-map}
-use Rattle.std.proofs.lemmas.List.Edits.{length-remove}
-use Rattle.lrc_base.specs.declared.grammar.Sort.{Sort}
-use Rattle.lrc_base.specs.declared.grammar.Production.{Production}
-use Rattle.lrc_order.specs.declared.Partition.{Partition}
 use Rattle.lrc_sequence.specs.declared.Bound.{Bound}
-use Rattle.lrc_sequence.specs.declared.Step.{Step}
 use Rattle.lrc_sequence.specs.Sequences.{State}
 use Rattle.lrc_plan.specs.declared.waiting.Waiting.{Waiting}
 use Rattle.lrc_plan.specs.ItemSets.{holds, HasRoom}
-use Rattle.lrc_plan.specs.Running.{unchecked, IsLeft, StandsFor}
+use Rattle.lrc_plan.specs.Running.{IsLeft, StandsFor}
 use Rattle.lrc_plan.proofs.ReadyLemmas.{makes_room, left_same, left_behind, none_more, after, after_greedy, after_stands}
 use Rattle.lrc_plan.proofs.greedy.segment.Goals as goal
 
@@ -47,7 +41,7 @@ actions-preserved c =
           let now = c.in_ok-push.ensures.ok in (
             after sorts parts p f ws vs c.actions.steps t.0 t.1 same i w first c.remove-waiting.ensures.value,
             subst (λ (xs : List Waiting). StandsFor sorts parts p xs g c.push.new.self (after sorts parts p f ws vs c.actions.steps t.0 t.1 same i w first c.remove-waiting.ensures.value)) (sym rest)
-            (after_stands sorts parts p f ws vs c.actions.steps t.0 t.1 same i w first c.remove-waiting.ensures.value g c.push.new.self made now),
+                (after_stands sorts parts p f ws vs c.actions.steps t.0 t.1 same i w first c.remove-waiting.ensures.value g c.push.new.self made now),
             after_greedy sorts parts p f ws vs c.actions.steps t.0 t.1 same i w first c.remove-waiting.ensures.value ∙ t.2,
           );
     }

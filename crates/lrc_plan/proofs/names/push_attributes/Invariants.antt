@@ -1,4 +1,4 @@
-use Rattle.std.proofs.Common.{◌≡◌, ◌++◌, map, take}
+use Rattle.std.proofs.Common.{◌≡◌, ◌++◌, take}
 use Rattle.lrc_plan.specs.Text.{attribute_names}
 use Rattle.lrc_plan.proofs.names.push_attributes.Given as goal
 

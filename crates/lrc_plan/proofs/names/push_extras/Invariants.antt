@@ -1,4 +1,4 @@
-use Rattle.std.proofs.Common.{◌≡◌, ◌++◌, map, take}
+use Rattle.std.proofs.Common.{◌≡◌, ◌++◌, take}
 use Rattle.std.specs.Prelude.{flat_map}
 use Rattle.lrc_plan.specs.Text.{extra_names}
 use Rattle.lrc_plan.proofs.names.push_extras.Given as goal

@@ -1,4 +1,4 @@
-use Rattle.std.proofs.Common.{◌≡◌, ◌++◌, map, take}
+use Rattle.std.proofs.Common.{◌≡◌, ◌++◌, take}
 use Rattle.std.specs.Prelude.{flat_map}
 use Rattle.lrc_base.specs.declared.grammar.Kid.{Kid}
 use Rattle.lrc_meaning.specs.Grammar.{attrs_of}

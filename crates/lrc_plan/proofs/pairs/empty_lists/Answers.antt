@@ -1,4 +1,4 @@
-use Rattle.std.proofs.Common.{◌≡◌, ℕ, [], arith, ◌∙◌, sym, ap, ◌++◌, ◌∷◌, ◌+◌, List, map}
+use Rattle.std.proofs.Common.{◌≡◌, [], arith, ◌∙◌, sym, ap, ◌++◌, ◌∷◌, ◌+◌, List, map}
 use Rattle.std.specs.List.{range_with_len}
 use Rattle.std.proofs.lemmas.List.FromFn.{map-range_with_len_more}
 use Rattle.lrc_sequence.specs.declared.Bound.{Bound}

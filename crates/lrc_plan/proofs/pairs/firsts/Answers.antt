@@ -1,8 +1,7 @@
-use Rattle.std.proofs.Common.{◌≡◌, ℕ, ◌<◌, [], arith, ◌∙◌, sym, ap, ◌++◌, ◌∷◌, List, get_or, length}
+use Rattle.std.proofs.Common.{◌≡◌, ◌<◌, [], arith, ◌∙◌, ap, ◌++◌, ◌∷◌, List, get_or, length}
 use Rattle.lrc_order.specs.declared.Need.{Need}
 use Rattle.lrc_sequence.specs.declared.Bound.{Bound}
 use Rattle.lrc_sequence.specs.declared.Bound.TheVariants as item
-use Rattle.lrc_sequence.specs.Items.{firsts_of}
 use Rattle.lrc_ordered.proofs.GatherLemmas.{same_item}
 use Rattle.lrc_plan.proofs.PairLemmas.{lists_more, lists_count}
 use Rattle.lrc_plan.proofs.pairs.firsts.Goals as goal

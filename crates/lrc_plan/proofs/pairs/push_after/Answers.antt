@@ -1,4 +1,4 @@
-use Rattle.std.proofs.Common.{◌≡◌, ◌+◌, sym, ◌∙◌, ℕ, Bool}
+use Rattle.std.proofs.Common.{◌+◌, sym, ◌∙◌, ℕ, Bool}
 use Rattle.lrc_order.specs.declared.Need.{Need}
 use Rattle.lrc_order.specs.Needs.{need}
 use Rattle.lrc_sequence.specs.Items.{comes_before}

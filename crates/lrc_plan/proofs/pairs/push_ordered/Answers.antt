@@ -1,9 +1,3 @@
-use Rattle.std.proofs.Common.{ℕ, ◌+◌, List, map}
-use Rattle.std.specs.Prelude.{filter}
-use Rattle.std.specs.List.{range_with_len}
-use Rattle.lrc_order.specs.declared.Need.{Need}
-use Rattle.lrc_order.specs.Needs.{need}
-use Rattle.lrc_sequence.specs.Items.{comes_before}
 use Rattle.lrc_plan.proofs.PairLemmas.{flat_range_more}
 use Rattle.lrc_plan.proofs.pairs.push_ordered.Goals as goal
 

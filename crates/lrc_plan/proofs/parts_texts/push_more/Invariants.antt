@@ -1,6 +1,5 @@
-use Rattle.std.proofs.Common.{◌≡◌, ◌+◌, ◌++◌, ◌&&◌, ◌==◌, [], codes, map, take}
-use Rattle.std.specs.Prelude.{filter, flat_map, slice_index_or}
-use Rattle.std.specs.List.{range_with_len}
+use Rattle.std.proofs.Common.{◌≡◌, ◌++◌, codes, take}
+use Rattle.std.specs.Prelude.{flat_map}
 use Rattle.lrc_plan.specs.Text.{attr_name}
 use Rattle.lrc_plan.proofs.parts_texts.push_more.Given as goal
 

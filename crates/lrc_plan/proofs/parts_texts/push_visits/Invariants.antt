@@ -1,5 +1,5 @@
-use Rattle.std.proofs.Common.{◌≡◌, ◌+◌, ◌++◌, ◌&&◌, ◌==◌, [], codes, map, take}
-use Rattle.std.specs.Prelude.{filter, flat_map, slice_index_or}
+use Rattle.std.proofs.Common.{◌≡◌, ◌++◌}
+use Rattle.std.specs.Prelude.{flat_map}
 use Rattle.std.specs.List.{range_with_len}
 use Rattle.lrc_plan.specs.Text.{visit_text}
 use Rattle.lrc_plan.proofs.parts_texts.push_visits.Given as goal

@@ -1,4 +1,4 @@
-use Rattle.std.proofs.Common.{◌≡◌, ◌+◌, ◌++◌, [], map, take}
+use Rattle.std.proofs.Common.{◌≡◌, ◌+◌, ◌++◌, []}
 use Rattle.std.specs.Prelude.{flat_map, slice_index_or}
 use Rattle.std.specs.List.{range_with_len}
 use Rattle.lrc_plan.specs.Text.{binding_line}

@@ -1,4 +1,4 @@
-use Rattle.std.proofs.Common.{◌≡◌, ◌+◌, ◌++◌, map, take}
+use Rattle.std.proofs.Common.{◌≡◌, ◌++◌, take}
 use Rattle.lrc_plan.specs.Text.{more_actions}
 use Rattle.lrc_plan.proofs.plan_texts.push_more_actions.Given as goal
 

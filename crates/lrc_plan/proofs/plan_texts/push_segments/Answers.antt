@@ -1,8 +1,7 @@
-use Rattle.std.proofs.Common.{◌≡◌, ◌+◌, ◌++◌, [], List, get_or, ap, ◌∙◌}
+use Rattle.std.proofs.Common.{◌+◌, ◌++◌, [], List, get_or, ap, ◌∙◌}
 use Rattle.lrc_sequence.specs.declared.Action.{Action}
-use Rattle.lrc_sequence.specs.declared.Bound.{Bound}
 use Rattle.lrc_ordered.proofs.GatherLemmas.{same_item}
-use Rattle.lrc_plan.specs.Text.{segment_line, binding_line, later_lines}
+use Rattle.lrc_plan.specs.Text.{segment_line}
 use Rattle.lrc_plan.proofs.PairLemmas.{flat_range_more}
 use Rattle.lrc_plan.proofs.plan_texts.push_segments.Goals as goal
 

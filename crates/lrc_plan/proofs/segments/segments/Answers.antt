@@ -1,8 +1,5 @@
-use Rattle.std.proofs.Common.{◌≡◌, ℕ, ◌+◌, ◌<◌, All, get_or, sym, ap, subst, ◌∙◌, inl, refl, arith}
-use Rattle.lrc_sequence.specs.declared.Bound.{Bound}
-use Rattle.lrc_sequence.specs.Items.{visits_of, values_of_visit}
-use Rattle.lrc_plan.specs.ItemSets.{HasRoom}
-use Rattle.lrc_plan.specs.Running.{IsLeft, FoundSo}
+use Rattle.std.proofs.Common.{◌+◌, ◌<◌, subst, inl, refl, arith}
+use Rattle.lrc_sequence.specs.Items.{visits_of}
 use Rattle.lrc_plan.proofs.SegmentLemmas.{left_grown}
 use Rattle.lrc_plan.proofs.SegmentLemmas.{starts_left, starts, found_more, all_found}
 use Rattle.lrc_plan.proofs.segments.segments.Goals as goal

@@ -1,8 +1,6 @@
 use Rattle.std.proofs.Common.{◌≡◌, ℕ, List, All, true, false, sym, ap, subst, ◌∙◌}
 use Rattle.lrc_base.specs.declared.grammar.Sort.{Sort}
 use Rattle.lrc_grammar.specs.Grammar.{grammar_of}
-use Rattle.lrc_meaning.specs.Grammar.{is_production_right}
-use Rattle.lrc_order.specs.declared.Partition.{Partition}
 use Rattle.lrc_sequence.specs.declared.Bound.{Bound}
 use Rattle.lrc_sequence.specs.declared.Step.{Step}
 use Rattle.lrc_sequence.specs.Items.{values_of_visit}

@@ -1,4 +1,4 @@
-use Rattle.std.proofs.Common.{◌≡◌, ℕ, ◌+◌, ◌<◌, ◌^◌, List, ◌∷◌, All, drop, length, map, true, false, sym, ap, subst, ◌∙◌, refl}
+use Rattle.std.proofs.Common.{◌≡◌, ℕ, ◌+◌, ◌<◌, ◌^◌, List, All, drop, length, map, true, sym, ap, subst, ◌∙◌, refl}
 use Rattle.lrc_base.specs.declared.grammar.Sort.{Sort}
 use Rattle.lrc_base.specs.declared.grammar.Production.{Production}
 use Rattle.lrc_order.specs.declared.Partition.{Partition}

@@ -1,4 +1,4 @@
-use Rattle.std.proofs.Common.{◌≡◌, ◌+◌, ◌&&◌, ◌==◌, sym, ◌∙◌, ℕ, Bool}
+use Rattle.std.proofs.Common.{◌+◌, ◌&&◌, ◌==◌, sym, ◌∙◌, ℕ, Bool}
 use Rattle.lrc_sequence.specs.declared.Bound.{Bound}
 use Rattle.lrc_sequence.specs.declared.Bound.TheVariants as b
 use Rattle.lrc_sequence.specs.Items.{is_of, visit_of}

@@ -1,7 +1,4 @@
-use Rattle.std.proofs.Common.{◌≡◌, ◌+◌, ◌++◌, ◌&&◌, ◌==◌, map}
-use Rattle.std.specs.Prelude.{filter}
-use Rattle.std.specs.List.{range_with_len}
-use Rattle.lrc_sequence.specs.declared.Bound.TheVariants as b
+use Rattle.std.proofs.Common.{◌≡◌, ◌++◌}
 use Rattle.lrc_plan.proofs.VisitLemmas.{values_below}
 use Rattle.lrc_plan.proofs.visits.push_values.Given as goal
 

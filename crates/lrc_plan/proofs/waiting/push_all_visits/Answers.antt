@@ -1,4 +1,4 @@
-use Rattle.std.proofs.Common.{◌≡◌, ◌+◌, ◌++◌, ℕ, List, map, ap, ◌∙◌, arith, None}
+use Rattle.std.proofs.Common.{◌++◌, List, map, ap, ◌∙◌, None}
 use Rattle.lrc_order.specs.declared.Place.{Place}
 use Rattle.lrc_sequence.specs.Sequences.{visits_at}
 use Rattle.lrc_plan.specs.declared.waiting.Waiting.{Waiting}

@@ -1,4 +1,4 @@
-use Rattle.std.proofs.Common.{◌≡◌, ℕ, Bool, sym, ap, ◌∙◌, ◌++◌, ◌∷◌, [], rules, slice_get, get_or, Some, List, Vec, Global, arith}
+use Rattle.std.proofs.Common.{sym, ap, ◌∙◌, ◌++◌, ◌∷◌, [], Vec, Global, arith}
 use Rattle.lrc_plan.specs.declared.waiting.Waiting.{Waiting}
 use Rattle.lrc_plan.specs.Waiting.{waiting_evaluation}
 use Rattle.lrc_sequence.specs.Sequences.{is_defined}

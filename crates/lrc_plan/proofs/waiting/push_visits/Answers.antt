@@ -1,4 +1,4 @@
-use Rattle.std.proofs.Common.{◌≡◌, ◌+◌, ◌++◌, ◌∷◌, [], ap, ◌∙◌, arith}
+use Rattle.std.proofs.Common.{◌+◌, ◌++◌, ◌∷◌, [], ap, ◌∙◌, arith}
 use Rattle.lrc_plan.specs.Waiting.{waiting_visit}
 use Rattle.lrc_plan.proofs.VisitLemmas.{row_more}
 use Rattle.lrc_plan.proofs.waiting.push_visits.Goals as goal

@@ -1,9 +1,9 @@
-use Rattle.std.proofs.Common.{◌≡◌, ◌↔◌, ◌⊎◌, ◌≤◌, ◌+◌, IsTrue, Contains, take, length, get_or, subst, sym, refl, ap, List, arith}
+use Rattle.std.proofs.Common.{◌↔◌, ◌⊎◌, IsTrue, Contains, get_or, subst, List, arith}
 use Rattle.std.proofs.lemmas.List.{take_all}
 use Rattle.lrc_sequence.specs.declared.Bound as sequence
 use Rattle.lrc_sequence.specs.declared.Bound.TheVariants as b
 use Rattle.lrc_ordered.proofs.GatherLemmas.{same_item}
-use Rattle.lrc_plan.specs.ItemSets.{Flags, holds, HasRoom}
+use Rattle.lrc_plan.specs.ItemSets.{holds}
 use Rattle.lrc_plan.proofs.SetLemmas.{items_more}
 use Rattle.lrc_plan.proofs.item_set.ItemSet.insert_all.Goals as goal
 

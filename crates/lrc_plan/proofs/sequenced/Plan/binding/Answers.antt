@@ -1,10 +1,6 @@
-use Rattle.std.proofs.Common.{◌≡◌, ℕ, ◌-◌, ◌<◌, List, length, get_or, slice_get, sym, ap, ◌∙◌}
-use Rattle.lrc_base.specs.declared.grammar.Production.{Production}
-use Rattle.lrc_sequence.specs.declared.Action.{Action}
-use Rattle.lrc_sequence.specs.declared.Bound.{Bound}
+use Rattle.std.proofs.Common.{◌≡◌, slice_get, ap, ◌∙◌}
 use Rattle.lrc_sequence.specs.declared.Sequences.{Sequences}
 use Rattle.lrc_sequence.specs.Plans.{sequences_of, bindings_from, bindings_of}
-use Rattle.lrc_sequence.specs.Sequences.{segment, segments_of}
 use Rattle.lrc_sequence.specs.Bindings.{binding}
 use Rattle.lrc_sequence.specs.Items.{visits_of}
 use Rattle.lrc_plan.specs.Planned.{IsVisit}

@@ -1,4 +1,4 @@
-use Rattle.std.proofs.Common.{◌≡◌, List, [], Bool, false, slice_index_or, get_or, sym, ap, ◌∙◌, rules}
+use Rattle.std.proofs.Common.{◌≡◌, List, [], Bool, false, get_or, sym, ap, ◌∙◌, rules}
 use Rattle.std.proofs.lemmas.Option.{get_or_from_slice_get}
 use Rattle.lrc_plan.proofs.AtLemmas.{past_default}
 use Rattle.lrc_plan.proofs.visit_table.VisitTable.has.Goals as goal

@@ -1,0 +1,2 @@
+pub mod EndlessLemmas
+pub mod DeclarationLemmas

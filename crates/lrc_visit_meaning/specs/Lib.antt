@@ -1,0 +1,5 @@
+pub mod Values
+pub mod Visits
+pub mod Shown
+pub mod Demand
+pub mod Examples
