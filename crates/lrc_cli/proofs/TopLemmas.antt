@@ -33,7 +33,7 @@ use Rattle.lrc_meaning.specs.Tree.{Tree}
 use Rattle.lrc_meaning.specs.Editing.{Change}
 use Rattle.lrc_meaning.specs.Grammar.{Grammar}
 use Rattle.lrc_lines.specs.Taken.{failure_of_text, failure_of_job}
-use Rattle.lrc_cli.specs.Headline.{IsAccepted, IsBuilt, IsRunOf, IsOutputOf, IsBuiltFor}
+use Rattle.lrc_cli.specs.Headline.{IsAccepted, IsBuilt, IsOutputOf, IsBuiltFor}
 use Rattle.lrc_cli.specs.Causes.{row_limit, IsCycleAt, IsUnbuiltVerb, IsBuiltVerb, TellsOrder, IsUnordered, has_cycle, has_no_memory, IsCause, no_job, not_accepted, too_many_rows, no_run, not_ordered, no_memory}
 use Rattle.lrc_cli.proofs.RunLemmas.{OneJob, same_accepted}
 use Rattle.lrc_cli.specs.Status.{input_limit, IsReadWhole, Done, Unwritten, IsRefused, unread, read, Refused, HoldsJob, is_refusal}
@@ -308,8 +308,10 @@ not_refused one words command (Some bytes) left' failure says job r refused = by
   where
     same-verb : refused.command.verb ≡ command.verb
     same-verb = same_command (texts words) refused.command command refused.says says
+
     moved : IsBuiltFor refused.command.verb bytes
     moved = subst (λ (v : Verb). IsBuiltFor v bytes) (sym same-verb) job
+
     by : (failure : Failure) → IsTrue (is_refusal failure) → IsRefused refused.command (Some bytes) left' failure → ⊥
     by _ r (unread unbuilt keeps) = unbuilt_has_none refused.command.verb bytes moved unbuilt
     by _ r (read input failure taken cause) =
