@@ -24,7 +24,7 @@ use Rattle.lrc_sequence.specs.Sound.{handed_in, IsSound}
 use Rattle.lrc_sequence.proofs.ItemLemmas.{contained, among}
 use Rattle.lrc_visit_meaning.specs.Values.{value, binding, no_data, data_row, data_list, value_in, Call, Result}
 use Rattle.lrc_visit_meaning.specs.Visits.{Held, nothing_held, holding, Given, Walked, walk, are_of_kinds, is_of_kind, tree_at, call_of, given_by, held_at_start, result_of, evaluated, step, visit_of_node, visit_of_tree, one_visit, plain_visit}
-use Rattle.lrc_laws.proofs.ListLemmas.{member_first, member_later, member_cases, no_member, member_map, member_flat, member_of_flat, member_range, member_of_range, map_map, map_agree, map_told, map_flat, flat_of_map, flat_agree}
+use Rattle.lrc_plan.proofs.ListLemmas.{member_first, member_later, member_cases, no_member, member_map, member_flat, member_of_flat, member_range, member_of_range, map_map, map_agree, map_told, map_flat, flat_of_map, flat_agree}
 use Rattle.lrc_laws.proofs.FuelLemmas.{mapped, bound_by, where_true}
 use Rattle.lrc_laws.proofs.HeldLemmas.{Agree, holding_agrees, IsMade}
 use Rattle.lrc_laws.proofs.ReadLemmas.{step_reads}

@@ -22,7 +22,7 @@ use Rattle.lrc_sequence.specs.declared.Bound.TheVariants as b
 use Rattle.lrc_sequence.specs.Items.{visits_of, attrs_of_visit, symbol_at}
 use Rattle.lrc_visit_meaning.specs.Values.{value, binding, value_in, binding_in, no_tree, Call, Result}
 use Rattle.lrc_visit_meaning.specs.Visits.{Held, Given, is_of_kind, are_of_kinds, symbol_trees, evaluated, tree_at, call_of, given_by, step}
-use Rattle.lrc_laws.proofs.ListLemmas.{map_map}
+use Rattle.lrc_plan.proofs.ListLemmas.{map_map}
 use Rattle.lrc_laws.proofs.FuelLemmas.{mapped, where_true}
 use Rattle.lrc_laws.proofs.HeldLemmas.{IsMade}
 use Rattle.lrc_laws.proofs.NodeLemmas.{ServesOne, symbol_face, call_asks}

@@ -28,13 +28,13 @@ use Rattle.lrc_visit_meaning.specs.Values.{value, Data, data_row, value_in, no_t
 use Rattle.lrc_visit_meaning.specs.Visits.{Held, values_in, leaf_in, symbol_trees, equation_of, evaluated, tree_at, is_of_kind, step, one_visit, plain_visit}
 pub use Rattle.lrc_visit_meaning.specs.Shown.{no_bound, held_of, bound_of, bounds_of, face_of, node_held}
 use Rattle.lrc_visit_meaning.specs.Shown.{no_height, visit_height, heights_of}
-use Rattle.lrc_laws.proofs.ListLemmas.{member_slice, slice_of_member}
+use Rattle.lrc_plan.proofs.ListLemmas.{member_slice, slice_of_member}
 use Rattle.lrc_laws.proofs.FuelLemmas.{max_left, max_right}
 use Rattle.lrc_laws.proofs.HeldLemmas.{IsMade}
 use Rattle.lrc_laws.proofs.ReadLemmas.{found_there, value_same}
 use Rattle.lrc_laws.proofs.NodeLemmas.{IsProper, Serves, own_face, symbol_face, AllMade, AreAlike, serves_alike, visit_made, node_serves}
 use Rattle.lrc_laws.proofs.PartLemmas.{symbols_in, symbols_right, symbols_low, left_kind, bare_of_kind, kids_of_kinds, leaf_same, symbol_trees_are, kid_symbol, extra_symbol, kid_counts, extra_counts}
-use Rattle.lrc_laws.proofs.OccurrenceLemmas.{slice_left, slice_right}
+use Rattle.lrc_plan.proofs.ApartLemmas.{slice_left, slice_right}
 use Rattle.lrc_laws.proofs.FormedLemmas.{equation_there}
 
 pub sort_same : (s r : ℕ) → k.Sort s ≡ k.Sort r → s ≡ r

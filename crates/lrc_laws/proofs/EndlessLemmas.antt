@@ -11,7 +11,7 @@ use Rattle.lrc_meaning.specs.Attribution.{Decorated, at_node, Parts, end, value,
 use Rattle.lrc_meaning.specs.Examples.{production, equals}
 use Rattle.lrc_meaning.proofs.ExpressionLemmas.{expression_equations}
 use Rattle.lrc_visit_meaning.specs.Examples.{endless, loop, one}
-use Rattle.lrc_laws.proofs.OccurrenceLemmas.{slice_right}
+use Rattle.lrc_plan.proofs.ApartLemmas.{slice_right}
 
 abbrev attached : Extra
 attached = record { name = codes "a"; attached = true; kind = k.Sort 0 }

@@ -1,4 +1,3 @@
-pub mod ListLemmas
 pub mod FuelLemmas
 pub mod HeldLemmas
 pub mod ReadLemmas
@@ -20,6 +19,4 @@ pub mod MetLemmas
 pub mod DemandLemmas
 pub mod ReachLemmas
 pub mod SameReachLemmas
-pub mod OnceLemmas
-pub mod ApartLemmas
 pub mod SoundLemmas

@@ -20,7 +20,7 @@ use Rattle.lrc_sequence.specs.Sound.{handed_in, IsDone, IsSound}
 use Rattle.lrc_visit_meaning.specs.Values.{Datum, value, binding, data_row, data_list, value_in, binding_in, Call, Result}
 use Rattle.lrc_visit_meaning.specs.Visits.{Held, nothing_held, holding, Walked, walk, are_of_kinds, is_of_kind, tree_at, call_of, given_by, held_at_start, result_of, step, visit_of_node, one_visit}
 pub use Rattle.lrc_visit_meaning.specs.Shown.{Face, asked}
-use Rattle.lrc_laws.proofs.ListLemmas.{member_map, member_of_filter, member_of_range, map_map, map_agree, map_flat, flat_of_map, flat_agree}
+use Rattle.lrc_plan.proofs.ListLemmas.{member_map, member_of_filter, member_of_range, map_map, map_agree, map_flat, flat_of_map, flat_agree}
 use Rattle.lrc_laws.proofs.HeldLemmas.{Agree, agree_part, holding_agrees, IsMade, walk_follows}
 use Rattle.lrc_laws.proofs.ReadLemmas.{step_reads}
 

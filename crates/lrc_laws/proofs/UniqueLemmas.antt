@@ -1,8 +1,7 @@
 -- Two attributions of a tree that inherit the same are equal.
-use Rattle.std.proofs.Common.{◌≡◌, ℕ, ◌+◌, ◌<◌, ◌≤◌, Bool, true, false, not, ◌&&◌, IsTrue, List, [], ◌∷◌, ◌++◌, length, get_or, Contains, Option, Some, None, inl, inr, slice_get, refl, sym, ap, ◌∙◌, subst, arith}
-use Rattle.std.specs.Prelude.{slice_index_or, cond, ◌==◌}
+use Rattle.std.proofs.Common.{◌≡◌, ℕ, ◌+◌, ◌<◌, ◌≤◌, true, false, not, ◌&&◌, IsTrue, List, [], ◌∷◌, ◌++◌, length, get_or, Some, inl, inr, slice_get, refl, sym, ap, ◌∙◌, subst, arith}
+use Rattle.std.specs.Prelude.{slice_index_or}
 use Rattle.std.specs.Option.{option_map_or}
-use Rattle.std.specs.List.{range_with_len}
 use Rattle.std.proofs.lemmas.Bool.{and_parts, false≢true, true≢false, not-true, eq-eqb}
 use Rattle.std.proofs.lemmas.Option.{same_Some, slice_get-get_or, slice_get_within}
 use Rattle.std.proofs.lemmas.List.{ext_get_or, get_or_append_left}
@@ -17,17 +16,18 @@ use Rattle.lrc_meaning.specs.Grammar.{Grammar, Occurrence, attrs_of_sort, occurr
 use Rattle.lrc_meaning.specs.Attribution.{Decorated, at_node, Parts, end, value, symbol, bare, bare_kids, attributes_of, production_of, kid_values, extra_values, occurrence_values, kids_agree, extras_agree, IsNodeRight, IsRight, AreRight, height, highest}
 use Rattle.lrc_order.specs.declared.Partition.{Partition}
 use Rattle.lrc_sequence.specs.declared.Bound.TheVariants as b
-use Rattle.lrc_sequence.specs.Items.{is_of, visit_of, attrs_of_visit, values_of_visit}
+use Rattle.lrc_sequence.specs.Items.{attrs_of_visit, values_of_visit}
 use Rattle.lrc_visit_meaning.specs.Values.{value_in, no_tree}
 use Rattle.lrc_visit_meaning.specs.Values.{value as datum}
 use Rattle.lrc_visit_meaning.specs.Visits.{Held, plain_visit}
-use Rattle.lrc_laws.proofs.ListLemmas.{member_of_map, member_of_filter}
+use Rattle.lrc_plan.proofs.ListLemmas.{member_of_map}
 use Rattle.lrc_laws.proofs.FuelLemmas.{max_left, max_right}
 use Rattle.lrc_laws.proofs.HeldLemmas.{Agree}
 use Rattle.lrc_laws.proofs.NodeLemmas.{AllMade}
 use Rattle.lrc_laws.proofs.PartLemmas.{symbols_right, symbols_low, symbol_sort, attributes_count, kid_counts}
 use Rattle.lrc_laws.proofs.DecoratedLemmas.{node_held, node_made, whole_count, serves, AreSound}
 use Rattle.lrc_laws.proofs.AlikeLemmas.{AreVisited, occurrence_alike}
+use Rattle.lrc_plan.proofs.ApartLemmas.{attr_in_visit}
 
 pub fronts_same : {X : Type 0} (xs ys us vs : List X) → length xs ≡ length ys → xs ++ us ≡ ys ++ vs → (xs ≡ ys) × (us ≡ vs)
 fronts_same [] [] us vs l e = (refl, e)
@@ -38,19 +38,6 @@ fronts_same (x ∷ xs) (y ∷ ys) us vs l e =
     let tail : xs ++ us ≡ ys ++ vs = cc in
     let rest = fronts_same xs ys us vs (omega arith) tail in
     (ap (λ z. z ∷ xs) head ∙ ap (λ zs. y ∷ zs) rest.0, rest.1)
-
-attr_told : (o : Option Attr) (inherited : Bool) → option_map_or (λ (attr : Attr). cond inherited attr.inherited (not attr.inherited)) o false ≡ true
-    → (attr : Attr) × (o ≡ Some attr) × (attr.inherited ≡ inherited)
-attr_told None inherited h = absurd (false≢true h)
-attr_told (Some attr) true h = (attr, refl, h)
-attr_told (Some attr) false h = (attr, refl, not-true attr.inherited h)
-
--- an attribute of a visit is one of the sort, of its direction
-pub attr_in_visit : (g : Grammar) (parts : List Partition) (s : ℕ) (inherited : Bool) (v x : ℕ) → Contains (attrs_of_visit g.sorts parts inherited s v) x
-    → (attr : Attr) × (slice_get (attrs_of_sort g.sorts s) x ≡ Some attr) × (attr.inherited ≡ inherited)
-attr_in_visit g parts s inherited v x c =
-    let there = member_of_filter (λ y. is_of (attrs_of_sort g.sorts s) inherited y && (visit_of parts s y == v)) (range_with_len 0 (length (attrs_of_sort g.sorts s))) x c in
-    attr_told (slice_get (attrs_of_sort g.sorts s) x) inherited (and_parts (is_of (attrs_of_sort g.sorts s) inherited x) (visit_of parts s x == v) there.1).0
 
 -- what a node holds at an attribute of its own
 pub own_at : (g : Grammar) (q : Production) (own : List Tree) (kids extras : Parts) → IsNodeRight g q own kids extras → (x : ℕ) → x < length (attrs_of_sort g.sorts q.left)

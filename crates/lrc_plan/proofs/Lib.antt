@@ -19,3 +19,8 @@ pub mod TraceLemmas
 pub mod BackLemmas
 pub mod GivesLemmas
 pub mod CompleteLemmas
+pub mod ListLemmas
+pub mod DistinctLemmas
+pub mod OnceLemmas
+pub mod ApartLemmas
+pub mod SoundLemmas

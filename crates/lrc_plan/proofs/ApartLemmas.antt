@@ -3,7 +3,7 @@ use Rattle.std.proofs.Common.{◌≡◌, ℕ, zero, suc, ◌+◌, ◌-◌, ◌<�
 use Rattle.std.specs.Prelude.{flat_map, AllPairs}
 use Rattle.std.specs.Option.{option_map, option_map_or}
 use Rattle.std.specs.List.{range_with_len}
-use Rattle.std.proofs.lemmas.Bool.{true≢false, cases_order, and_parts, eqb-true}
+use Rattle.std.proofs.lemmas.Bool.{true≢false, false≢true, not-true, cases_order, and_parts, eqb-true}
 use Rattle.std.proofs.lemmas.Option.{none-some, same_Some, slice_get-map, slice_get-get_or, slice_get_within}
 use Rattle.std.proofs.lemmas.List.{length-map}
 use Rattle.std.proofs.lemmas.List.Elements.{Contains-append_cases}
@@ -25,11 +25,32 @@ use Rattle.lrc_sequence.specs.declared.Bound.TheVariants as b
 use Rattle.lrc_sequence.specs.Items.{visit_of, visits_of, is_of, attrs_of_visit, values_of_visit, symbol_at, makes}
 use Rattle.lrc_sequence.specs.Sequences.{is_defined, segment}
 use Rattle.lrc_sequence.specs.Bindings.{gained}
-use Rattle.lrc_laws.proofs.ListLemmas.{member_cases, no_member, member_of_map, member_of_flat, member_of_filter, member_of_range}
-use Rattle.lrc_laws.proofs.OccurrenceLemmas.{slice_left, slice_right}
-use Rattle.lrc_laws.proofs.UniqueLemmas.{attr_in_visit}
-use Rattle.lrc_laws.proofs.FreshLemmas.{Distinct}
-use Rattle.lrc_laws.proofs.OnceLemmas.{join_distinct, distinct_map, distinct_filter, distinct_range, distinct_flat, pairs_of_distinct, IsVisitOf, action_cases, segment_once, segments_apart, segment_actions}
+use Rattle.lrc_plan.proofs.ListLemmas.{member_cases, no_member, member_of_map, member_of_flat, member_of_filter, member_of_range}
+use Rattle.lrc_plan.proofs.DistinctLemmas.{Distinct}
+use Rattle.lrc_plan.proofs.OnceLemmas.{join_distinct, distinct_map, distinct_filter, distinct_range, distinct_flat, pairs_of_distinct, IsVisitOf, action_cases, segment_once, segments_apart, segment_actions}
+
+pub slice_left : {X : Type 0} (xs ys : List X) (i : ℕ) → i < length xs → slice_get (xs ++ ys) i ≡ slice_get xs i
+slice_left [] ys i h = absurd (omega arith)
+slice_left (x ∷ xs) ys zero h = refl
+slice_left (x ∷ xs) ys (suc i) h = slice_left xs ys i (omega arith)
+
+pub slice_right : {X : Type 0} (xs ys : List X) (i j : ℕ) → i ≡ length xs + j → slice_get (xs ++ ys) i ≡ slice_get ys j
+slice_right [] ys i j e = let k : i ≡ j = omega arith in ap (slice_get ys) k
+slice_right (x ∷ xs) ys zero j e = absurd (omega arith)
+slice_right (x ∷ xs) ys (suc i) j e = slice_right xs ys i j (omega arith)
+
+attr_told : (o : Option Attr) (inherited : Bool) → option_map_or (λ (attr : Attr). cond inherited attr.inherited (not attr.inherited)) o false ≡ true
+    → (attr : Attr) × (o ≡ Some attr) × (attr.inherited ≡ inherited)
+attr_told None inherited h = absurd (false≢true h)
+attr_told (Some attr) true h = (attr, refl, h)
+attr_told (Some attr) false h = (attr, refl, not-true attr.inherited h)
+
+-- an attribute of a visit is one of the sort, of its direction
+pub attr_in_visit : (g : Grammar) (parts : List Partition) (s : ℕ) (inherited : Bool) (v x : ℕ) → Contains (attrs_of_visit g.sorts parts inherited s v) x
+    → (attr : Attr) × (slice_get (attrs_of_sort g.sorts s) x ≡ Some attr) × (attr.inherited ≡ inherited)
+attr_in_visit g parts s inherited v x c =
+    let there = member_of_filter (λ y. is_of (attrs_of_sort g.sorts s) inherited y && (visit_of parts s y == v)) (range_with_len 0 (length (attrs_of_sort g.sorts s))) x c in
+    attr_told (slice_get (attrs_of_sort g.sorts s) x) inherited (and_parts (is_of (attrs_of_sort g.sorts s) inherited x) (visit_of parts s x == v) there.1).0
 
 module _ (sorts : List Sort) where
   abbrev size : Place → ℕ
