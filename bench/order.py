@@ -15,37 +15,38 @@ import sys
 import tempfile
 
 
-def sort(number):
+def sort(number, attributes):
     inherits = number > 0
     attrs = []
-    for i in range(16):
+    for i in range(attributes):
         attrs.append("%s a%d: Int;" % ("inh" if inherits and i % 2 == 0 else "syn", i))
     return "sort S%d { %s }" % (number, " ".join(attrs))
 
 
-def production(number, sorts):
-    """A production whose children are of the sorts behind its own, and whose locals are a chain."""
+def production(number, sorts, attributes):
+    """A production whose children are of the sorts behind its own, and whose locals, as many as attributes, are a chain."""
     left = number % sorts
     kids = [(left + 1 + (number // sorts + i) % (sorts - 1)) % sorts or 1 for i in range(8)]
     items, last = [], "1"
-    for i in range(16):
+    for i in range(attributes):
         items.append("local l%d: Int = %s + 1;" % (i, last))
         last = "l%d" % i
     for k in range(8):
-        for i in range(0, 16, 2):
+        for i in range(0, attributes, 2):
             before = "k%d.a%d" % (k, i - 1) if i else last
             items.append("k%d.a%d = %s;" % (k, i, before if left == 0 or i == 0 else before + " + a%d" % i))
-    for i in range(16):
+    for i in range(attributes):
         if left == 0:
-            items.append("a%d = k%d.a%d;" % (i, i % 8, 15 if i % 2 == 0 else i))
+            items.append("a%d = k%d.a%d;" % (i, i % 8, attributes - 1 if i % 2 == 0 else i))
         elif i % 2:
             items.append("a%d = %s;" % (i, " + ".join(["a%d" % (i - 1)] + ["k%d.a%d" % (k, i) for k in range(8)])))
     head = ", ".join("k%d: S%d" % (k, s) for k, s in enumerate(kids))
     return "prod P%d: S%d (%s) { %s }" % (number, left, head, " ".join(items))
 
 
-def grammar(productions):
-    lines = ["lrc 1"] + [sort(i) for i in range(64)] + [production(i, 64) for i in range(productions)]
+def grammar(productions, attributes=16):
+    lines = ["lrc 1"] + [sort(i, attributes) for i in range(64)]
+    lines += [production(i, 64, attributes) for i in range(productions)]
     return "\n".join(lines + ["start S0;"]).encode()
 
 
