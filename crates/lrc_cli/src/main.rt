@@ -7,6 +7,8 @@ mod run;
 #[cfg(test)]
 mod tests;
 mod text;
+#[cfg(test)]
+mod text_tests;
 mod top;
 
 use lrc_outside::{ReadSource, WriteSink};
