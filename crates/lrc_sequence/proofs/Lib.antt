@@ -1,5 +1,6 @@
 pub mod ItemLemmas
 pub mod GreedyLemmas
 pub mod MemberLemmas
+pub mod DeclarationLemmas
 pub mod ReadyLemmas
 pub mod ExtendedLemmas

@@ -1,9 +1,10 @@
 -- The visits of two declarations, one after another.
-use Rattle.std.proofs.Common.{◌≡◌, ℕ, suc, ◌+◌, ◌-◌, true, cond, List, [], ◌∷◌, ◌++◌, map, get_or, pos, Option, Some, None, slice_get, codes, false, refl, ap, ◌∙◌}
+use Rattle.std.proofs.Common.{◌≡◌, ℕ, suc, ◌+◌, ◌-◌, true, cond, List, [], ◌∷◌, ◌++◌, map, get_or, pos, Option, Some, None, slice_get, codes, false, refl, sym, ap, ◌∙◌}
 use Rattle.std.specs.Prelude.{flat_map}
 use Rattle.std.specs.Option.{option_map, option_and_then}
 use Rattle.std.specs.List.{range_with_len}
 use Rattle.std.specs.Int.{int_wrap}
+use Rattle.std.proofs.lemmas.Simd.{map-map}
 use Rattle.lrc_base.specs.declared.grammar.Production.{Production}
 use Rattle.lrc_base.specs.declared.expr.Expr.TheVariants as e
 use Rattle.lrc_graph.specs.Pairs.{paired}
@@ -20,7 +21,8 @@ use Rattle.lrc_sequence.specs.Items.{visits_of, values_of_visit, makes}
 use Rattle.lrc_sequence.specs.Sequences.{segments_of, segment}
 use Rattle.lrc_sequence.specs.Bindings.{binding as items_between}
 use Rattle.lrc_sequence.specs.Sound.{handed_in}
-use Rattle.lrc_sequence.specs.Examples.{partitions, top, declaration, top_segments, declaration_segments, handed}
+use Rattle.lrc_sequence.specs.Examples.{partitions, top, declaration, handed}
+use Rattle.lrc_sequence.proofs.DeclarationLemmas.{top_is, declaration_is, declaration_hands}
 use Rattle.lrc_visit_meaning.specs.Values.{value, no_data, data_row, data_list, Call, Result, root_call}
 use Rattle.lrc_visit_meaning.specs.Visits.{nothing_held, holding, Walked, walk, are_of_kinds, values_at, held_at_start, result_of, step, visit_of_node, visit_of_tree, plain_visit}
 use Rattle.lrc_visit_meaning.specs.Examples.{number_result, no_items, second_item, both_items, first_call, second_call, first_result, declaration_binding}
@@ -33,10 +35,6 @@ module _ (g : Grammar) (parts : List Partition) where
     synthesised = values_at w.held (values_of_visit g.sorts parts false p.left 0 v);
     bindings = map (λ xs. data_row (map w.held xs)) later;
   }
-
-  map_over : {X Y Z : Type 0} (f : Y → Z) (h : X → Y) (xs : List X) → map (λ x. f (h x)) xs ≡ map f (map h xs)
-  map_over f h [] = refl
-  map_over f h (x ∷ xs) = ap (λ ys. f (h x) ∷ ys) (map_over f h xs)
 
   -- a visit by what is known of its segment and its bindings
   node_visit : (visit : Call → Option Result) (n : ℕ) (p : Production) (kids : Trees) (c : Call) (seg : List Action) (items : List Bound) (later : List (List Bound)) → slice_get g.prods n ≡ Some p
@@ -55,27 +53,15 @@ module _ (g : Grammar) (parts : List Partition) where
       over None = refl
       over (Some w) =
           ap (λ bs. Some (record { height = suc w.height; synthesised = values_at w.held (values_of_visit g.sorts parts false p.left 0 c.visit); bindings = bs }))
-          (map_over (λ xs. data_row (map w.held xs)) (items_between g.sorts parts p c.visit) (range_with_len (c.visit + 1) (visits_of parts p.left - c.visit))
+          (sym (map-map (λ xs. data_row (map w.held xs)) (items_between g.sorts parts p c.visit) (range_with_len (c.visit + 1) (visits_of parts p.left - c.visit)))
           ∙ ap (map (λ xs. data_row (map w.held xs))) later_are)
 
 abbrev empty : Production
 empty = production (codes "None") 1 [] [] (equals 0 (e.Int (pos 0)) ∷ equals 2 (e.Int (pos 0)) ∷ [])
 
-top_is : segments_of declarations.sorts partitions top ≡ top_segments
-unfolding paired
-top_is = simp expression_equations refl
-
-declaration_is : segments_of declarations.sorts partitions declaration ≡ declaration_segments
-unfolding paired
-declaration_is = simp expression_equations refl
-
 empty_is : segments_of declarations.sorts partitions empty ≡ (a.Eval 0 ∷ []) ∷ (a.Eval 2 ∷ []) ∷ []
 unfolding paired
 empty_is = simp expression_equations refl
-
-declaration_hands : items_between declarations.sorts partitions declaration 1 2 ≡ handed
-unfolding paired
-declaration_hands = rw declaration_is (simp expression_equations refl)
 
 empty_hands : items_between declarations.sorts partitions empty 1 2 ≡ []
 unfolding paired
