@@ -25,7 +25,7 @@ use Rattle.lrc_sequence.specs.Sound.{handed_in, IsDone, IsSound, IsVisitThere}
 use Rattle.lrc_sequence.proofs.ItemLemmas.{contained}
 use Rattle.lrc_visit_meaning.specs.Values.{Call, Result}
 use Rattle.lrc_visit_meaning.specs.Visits.{Held, step}
-use Rattle.lrc_plan.proofs.ListLemmas.{member_map, member_flat, member_of_flat, member_filter, member_of_filter, member_range, member_of_range, member_first}
+use Rattle.lrc_order.proofs.MemberLemmas.{member_map, member_flat, member_of_flat, member_filter, member_of_filter, member_range, member_of_range, member_first}
 use Rattle.lrc_laws.proofs.HeldLemmas.{Agree, agree_both, agree_right, made_alike}
 use Rattle.lrc_laws.proofs.ReadLemmas.{step_reads}
 use Rattle.lrc_laws.proofs.NodeLemmas.{AllMade}

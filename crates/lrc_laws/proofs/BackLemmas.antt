@@ -24,7 +24,10 @@ use Rattle.lrc_sequence.specs.Sound.{handed_in, IsSound}
 use Rattle.lrc_sequence.proofs.ItemLemmas.{contained, among}
 use Rattle.lrc_visit_meaning.specs.Values.{value, binding, no_data, data_row, data_list, value_in, Call, Result}
 use Rattle.lrc_visit_meaning.specs.Visits.{Held, nothing_held, holding, Given, Walked, walk, are_of_kinds, is_of_kind, tree_at, call_of, given_by, held_at_start, result_of, evaluated, step, visit_of_node, visit_of_tree, one_visit, plain_visit}
-use Rattle.lrc_plan.proofs.ListLemmas.{member_first, member_later, member_cases, no_member, member_map, member_flat, member_of_flat, member_range, member_of_range, map_map, map_agree, map_told, map_flat, flat_of_map, flat_agree}
+use Rattle.std.proofs.lemmas.List.Folds.{flat_map-map}
+use Rattle.std.proofs.lemmas.Simd.{map-map}
+use Rattle.lrc_order.proofs.MemberLemmas.{member_first, member_later, member_cases, no_member, member_map, member_flat, member_of_flat, member_range, member_of_range}
+use Rattle.lrc_plan.proofs.ListLemmas.{map_agree, map_told, map_flat, flat_agree}
 use Rattle.lrc_laws.proofs.FuelLemmas.{mapped, bound_by, where_true}
 use Rattle.lrc_laws.proofs.HeldLemmas.{Agree, holding_agrees, IsMade}
 use Rattle.lrc_laws.proofs.ReadLemmas.{step_reads}
@@ -234,16 +237,16 @@ module _ (g : Grammar) (parts : List Partition) where
       values_taken : map value (map f.attr (attrs_of_visit g.sorts parts true p.left v)) ≡ map taken_in values
       values_taken =
           let xs = attrs_of_visit g.sorts parts true p.left v in
-          map_map value f.attr xs
+          map-map value f.attr xs
           ∙ map_agree (λ x. value (f.attr x)) (λ x. taken_in (b.Value (0 + x))) xs
           (λ x c.
           let at : x ≡ 0 + x = omega arith in
           ap (λ i. value (f.attr i)) at ∙ sym (taken_value (0 + x) (member_map (λ y. b.Value (0 + y)) xs x c)))
-          ∙ sym (map_map taken_in (λ x. b.Value (0 + x)) xs)
+          ∙ sym (map-map taken_in (λ x. b.Value (0 + x)) xs)
 
       bindings_taken : flat_map data_list (map (λ u. f.bound u v) (range_with_len 1 (v - 1))) ≡ map taken_in bound_items
       bindings_taken =
-          flat_of_map data_list (λ u. f.bound u v) (range_with_len 1 (v - 1))
+          flat_map-map data_list (λ u. f.bound u v) (range_with_len 1 (v - 1))
           ∙ flat_agree (λ u. data_list (f.bound u v)) (λ u. map taken_in (items_between g.sorts parts p u v)) (range_with_len 1 (v - 1))
           (λ u c.
           let bounds = member_of_range 1 (v - 1) u c in
@@ -310,7 +313,7 @@ module _ (g : Grammar) (parts : List Partition) where
           let there = All-contains (Contains (handed_in g.sorts parts p v ++ flat_map (makes g.sorts parts p) (segment g.sorts parts p v))) outs (b.Value (0 + x)) (sound.gives v first last) member in
           let w = (here v first last).walked.held in
           let told : map (λ y. value_in (w (b.Value (0 + y)))) (attrs_of_visit g.sorts parts false p.left v) ≡ map f.attr (attrs_of_visit g.sorts parts false p.left v) =
-          sym (map_map (λ y. value_in (w y)) (λ y. b.Value (0 + y)) (attrs_of_visit g.sorts parts false p.left v)) ∙ (here v first last).answers.synthesised in
+          sym (map-map (λ y. value_in (w y)) (λ y. b.Value (0 + y)) (attrs_of_visit g.sorts parts false p.left v)) ∙ (here v first last).answers.synthesised in
           ap value_in (sym (end_holds (b.Value (0 + x)) there))
           ∙ map_told (λ y. value_in (w (b.Value (0 + y)))) f.attr (attrs_of_visit g.sorts parts false p.left v) told x c
 

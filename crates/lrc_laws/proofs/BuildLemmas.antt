@@ -22,7 +22,7 @@ use Rattle.lrc_sequence.specs.declared.Bound.TheVariants as b
 use Rattle.lrc_sequence.specs.Items.{visits_of, attrs_of_visit, symbol_at}
 use Rattle.lrc_visit_meaning.specs.Values.{value, binding, value_in, binding_in, no_tree, Call, Result}
 use Rattle.lrc_visit_meaning.specs.Visits.{Held, Given, is_of_kind, are_of_kinds, symbol_trees, evaluated, tree_at, call_of, given_by, step}
-use Rattle.lrc_plan.proofs.ListLemmas.{map_map}
+use Rattle.std.proofs.lemmas.Simd.{map-map}
 use Rattle.lrc_laws.proofs.FuelLemmas.{mapped, where_true}
 use Rattle.lrc_laws.proofs.HeldLemmas.{IsMade}
 use Rattle.lrc_laws.proofs.NodeLemmas.{ServesOne, symbol_face, call_asks}
@@ -95,13 +95,13 @@ module _ (g : Grammar) (parts : List Partition) (visit : Call → Option Result)
           is_result = ap visit (sym (call_asks g parts visit p kids held s v)) ∙ found.1;
           answers = record {
             synthesised =
-                sym (map_map value_in value r.synthesised ∙ map-id r.synthesised) ∙ ap (map value_in) split.0
-                ∙ ap (map value_in) (map_map held (λ x. b.Value (place.start + x)) outs)
-                ∙ map_map value_in (λ x. held (b.Value (place.start + x))) outs;
+                sym (map-map value_in value r.synthesised ∙ map-id r.synthesised) ∙ ap (map value_in) split.0
+                ∙ ap (map value_in) (map-map held (λ x. b.Value (place.start + x)) outs)
+                ∙ map-map value_in (λ x. held (b.Value (place.start + x))) outs;
             bindings =
-                sym (map_map binding_in binding r.bindings ∙ map-id r.bindings) ∙ ap (map binding_in) split.1
-                ∙ ap (map binding_in) (map_map held (λ w. b.Kid s v w) later)
-                ∙ map_map binding_in (λ w. held (b.Kid s v w)) later;
+                sym (map-map binding_in binding r.bindings ∙ map-id r.bindings) ∙ ap (map binding_in) split.1
+                ∙ ap (map binding_in) (map-map held (λ w. b.Kid s v w) later)
+                ∙ map-map binding_in (λ w. held (b.Kid s v w)) later;
           };
         },
       )

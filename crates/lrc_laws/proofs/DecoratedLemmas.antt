@@ -28,7 +28,7 @@ use Rattle.lrc_visit_meaning.specs.Values.{value, Data, data_row, value_in, no_t
 use Rattle.lrc_visit_meaning.specs.Visits.{Held, values_in, leaf_in, symbol_trees, equation_of, evaluated, tree_at, is_of_kind, step, one_visit, plain_visit}
 pub use Rattle.lrc_visit_meaning.specs.Shown.{no_bound, held_of, bound_of, bounds_of, face_of, node_held}
 use Rattle.lrc_visit_meaning.specs.Shown.{no_height, visit_height, heights_of}
-use Rattle.lrc_plan.proofs.ListLemmas.{member_slice, slice_of_member}
+use Rattle.lrc_order.proofs.MemberLemmas.{member_slice, slice_of_member}
 use Rattle.lrc_laws.proofs.FuelLemmas.{max_left, max_right}
 use Rattle.lrc_laws.proofs.HeldLemmas.{IsMade}
 use Rattle.lrc_laws.proofs.ReadLemmas.{found_there, value_same}

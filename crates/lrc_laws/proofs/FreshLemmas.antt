@@ -17,7 +17,8 @@ use Rattle.lrc_sequence.specs.Sound.{AreReady, handed_in, IsSound}
 use Rattle.lrc_sequence.proofs.ItemLemmas.{item_itself}
 use Rattle.lrc_visit_meaning.specs.Values.{Datum}
 use Rattle.lrc_visit_meaning.specs.Visits.{Held, Given, Walked, holding, walk}
-use Rattle.lrc_plan.proofs.ListLemmas.{member_cases, no_member, member_of_flat, member_of_range, map_agree}
+use Rattle.lrc_order.proofs.MemberLemmas.{member_cases, no_member, member_of_flat, member_of_range}
+use Rattle.lrc_plan.proofs.ListLemmas.{map_agree}
 use Rattle.lrc_plan.proofs.DistinctLemmas.{Distinct, distinct_pairs, distinct_right, distinct_left, apart, apart_by_number, distinct_at}
 use Rattle.lrc_laws.proofs.FuelLemmas.{bound_by, walked_on}
 use Rattle.lrc_laws.proofs.HeldLemmas.{Agree, agree_left, agree_right, agree_part, holding_other, IsMade, ReadsNeeds, AreMade}

@@ -15,7 +15,8 @@ use Rattle.lrc_sequence.specs.Sound.{AreReady}
 use Rattle.lrc_sequence.proofs.ItemLemmas.{same_items, item_itself}
 use Rattle.lrc_visit_meaning.specs.Values.{Datum}
 use Rattle.lrc_visit_meaning.specs.Visits.{Held, Given, Walked, holding, walk}
-use Rattle.lrc_plan.proofs.ListLemmas.{member_first, member_later, member_cases, no_member, map_told}
+use Rattle.lrc_order.proofs.MemberLemmas.{member_first, member_later, member_cases, no_member}
+use Rattle.lrc_plan.proofs.ListLemmas.{map_told}
 use Rattle.lrc_laws.proofs.FuelLemmas.{walked_on}
 
 -- what is held is the same at these items

@@ -22,7 +22,7 @@ use Rattle.lrc_sequence.specs.Sound.{AreReady}
 use Rattle.lrc_visit_meaning.specs.Values.{value_in, Call, Result}
 use Rattle.lrc_visit_meaning.specs.Visits.{Held, Given, Walked, walked_on, holding, walk, values_in, leaf_in, equation_of, tree_at, call_of, is_of_kind}
 use Rattle.lrc_visit_meaning.specs.Demand.{Met, built, built_in, built_in_each, walk_met, equation_met, action_met}
-use Rattle.lrc_plan.proofs.ListLemmas.{member_first, member_later}
+use Rattle.lrc_order.proofs.MemberLemmas.{member_first, member_later}
 use Rattle.lrc_laws.proofs.HeldLemmas.{Agree, agree_part, agree_held, ReadsNeeds, AreMade}
 use Rattle.lrc_laws.proofs.ReadLemmas.{value_same, slice_same, found_there, read_needed, same_tree_at, same_call}
 

@@ -20,7 +20,10 @@ use Rattle.lrc_sequence.specs.Sound.{handed_in, IsDone, IsSound}
 use Rattle.lrc_visit_meaning.specs.Values.{Datum, value, binding, data_row, data_list, value_in, binding_in, Call, Result}
 use Rattle.lrc_visit_meaning.specs.Visits.{Held, nothing_held, holding, Walked, walk, are_of_kinds, is_of_kind, tree_at, call_of, given_by, held_at_start, result_of, step, visit_of_node, one_visit}
 pub use Rattle.lrc_visit_meaning.specs.Shown.{Face, asked}
-use Rattle.lrc_plan.proofs.ListLemmas.{member_map, member_of_filter, member_of_range, map_map, map_agree, map_flat, flat_of_map, flat_agree}
+use Rattle.std.proofs.lemmas.List.Folds.{flat_map-map}
+use Rattle.std.proofs.lemmas.Simd.{map-map}
+use Rattle.lrc_order.proofs.MemberLemmas.{member_map, member_of_filter, member_of_range}
+use Rattle.lrc_plan.proofs.ListLemmas.{map_agree, map_flat, flat_agree}
 use Rattle.lrc_laws.proofs.HeldLemmas.{Agree, agree_part, holding_agrees, IsMade, walk_follows}
 use Rattle.lrc_laws.proofs.ReadLemmas.{step_reads}
 
@@ -70,14 +73,14 @@ module _ (g : Grammar) (parts : List Partition) where
     -- the values of some attributes of a place
     pub values_held : (start : ℕ) (xs : List ℕ) → map value (map (λ x. value_in (m (b.Value (start + x)))) xs) ≡ map m (map (λ x. b.Value (start + x)) xs)
     values_held start xs =
-        map_map value (λ x. value_in (m (b.Value (start + x)))) xs
+        map-map value (λ x. value_in (m (b.Value (start + x)))) xs
         ∙ map_agree (λ x. value (value_in (m (b.Value (start + x))))) (λ x. m (b.Value (start + x))) xs (λ x c. sym (proper.values (start + x)))
-        ∙ sym (map_map m (λ x. b.Value (start + x)) xs)
+        ∙ sym (map-map m (λ x. b.Value (start + x)) xs)
 
     bindings_held : (v : ℕ) (us : List ℕ)
         → flat_map data_list (map (λ u. data_row (map m (items_between g.sorts parts p u v))) us) ≡ map m (flat_map (λ u. items_between g.sorts parts p u v) us)
     bindings_held v us =
-        flat_of_map data_list (λ u. data_row (map m (items_between g.sorts parts p u v))) us
+        flat_map-map data_list (λ u. data_row (map m (items_between g.sorts parts p u v))) us
         ∙ flat_agree (λ u. data_list (data_row (map m (items_between g.sorts parts p u v)))) (λ u. map m (items_between g.sorts parts p u v)) us
         (λ u c. list_of_row (map m (items_between g.sorts parts p u v)))
         ∙ sym (map_flat m (λ u. items_between g.sorts parts p u v) us)
@@ -103,7 +106,7 @@ module _ (g : Grammar) (parts : List Partition) where
           → Answers (own_face p m) p.left v (result_of g parts p v w)
       end_answers w agrees hands = record {
         synthesised =
-            map_map (λ x. value_in (w.held x)) (λ x. b.Value (0 + x)) (attrs_of_visit g.sorts parts false p.left v)
+            map-map (λ x. value_in (w.held x)) (λ x. b.Value (0 + x)) (attrs_of_visit g.sorts parts false p.left v)
             ∙ map_agree (λ x. value_in (w.held (b.Value (0 + x)))) (λ x. value_in (m (b.Value (0 + x)))) (attrs_of_visit g.sorts parts false p.left v)
             (λ x c. ap value_in (agrees (b.Value (0 + x)) (member_map (λ x. b.Value (0 + x)) (attrs_of_visit g.sorts parts false p.left v) x c)));
         bindings =
@@ -176,7 +179,7 @@ module _ (g : Grammar) (parts : List Partition) (visit : Call → Option Result)
   pub call_asks : call_of g parts p kids m s v ≡ asked g parts (symbol_face g parts p m s) place.sort (tree_at g p kids m s) v
   call_asks =
       ap (λ vs. record { tree = tree_at g p kids m s; visit = v; inherited = vs; bindings = map (λ u. binding_in (m (b.Kid s u v))) (range_with_len 1 (v - 1)) })
-      (map_map (λ x. value_in (m x)) (λ x. b.Value (place.start + x)) (attrs_of_visit g.sorts parts true place.sort v))
+      (map-map (λ x. value_in (m x)) (λ x. b.Value (place.start + x)) (attrs_of_visit g.sorts parts true place.sort v))
 
   module _ (proper : IsProper m) where
     -- what a symbol's visit makes is there where its tree serves it
@@ -194,8 +197,8 @@ module _ (g : Grammar) (parts : List Partition) (visit : Call → Option Result)
           ∙ ap (λ ds. ds ++ map binding (map (λ w. binding_in (m (b.Kid s v w))) (range_with_len (v + 1) (visits_of parts place.sort - v))))
           (values_held g parts visit p kids m proper place.start (attrs_of_visit g.sorts parts false place.sort v))
           ∙ ap (λ ds. map m (values_of_visit g.sorts parts false place.sort place.start v) ++ ds)
-          (map_map binding (λ w. binding_in (m (b.Kid s v w))) (range_with_len (v + 1) (visits_of parts place.sort - v))
+          (map-map binding (λ w. binding_in (m (b.Kid s v w))) (range_with_len (v + 1) (visits_of parts place.sort - v))
           ∙ map_agree (λ w. binding (binding_in (m (b.Kid s v w)))) (λ w. m (b.Kid s v w)) (range_with_len (v + 1) (visits_of parts place.sort - v)) (λ w c. sym (proper.bindings s v w))
-          ∙ sym (map_map m (λ w. b.Kid s v w) (range_with_len (v + 1) (visits_of parts place.sort - v))))
+          ∙ sym (map-map m (λ w. b.Kid s v w) (range_with_len (v + 1) (visits_of parts place.sort - v))))
           ∙ sym (map-append m (values_of_visit g.sorts parts false place.sort place.start v) (map (λ w. b.Kid s v w) (range_with_len (v + 1) (visits_of parts place.sort - v))));
     }

@@ -17,7 +17,7 @@ use Rattle.lrc_order.specs.declared.Place.{Place}
 use Rattle.lrc_order.specs.Needs.{symbol_of, kid_symbols, extra_symbols}
 use Rattle.lrc_visit_meaning.specs.Values.{no_tree}
 use Rattle.lrc_visit_meaning.specs.Visits.{is_of_kind, are_of_kinds, leaf_in, symbol_trees}
-use Rattle.lrc_plan.proofs.ListLemmas.{member_cases, no_member}
+use Rattle.lrc_order.proofs.MemberLemmas.{member_cases, no_member}
 use Rattle.lrc_laws.proofs.FuelLemmas.{max_left, max_right}
 
 -- the decorated trees among parts, in order

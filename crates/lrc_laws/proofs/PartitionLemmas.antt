@@ -15,7 +15,7 @@ use Rattle.lrc_order.specs.Sets.{HasTurn, CanStand, Placed}
 use Rattle.lrc_order.specs.Ordered.{IsGivenThere, Partitions, ArePartitions}
 use Rattle.lrc_order.proofs.TransitiveLemmas.{has_place}
 use Rattle.lrc_sequence.specs.Items.{visit_of, visits_of}
-use Rattle.lrc_plan.proofs.ListLemmas.{member_range}
+use Rattle.lrc_order.proofs.MemberLemmas.{member_range}
 use Rattle.lrc_laws.proofs.FormedLemmas.{list_all-at}
 use Rattle.lrc_laws.proofs.AlikeLemmas.{AreVisited}
 use Rattle.lrc_laws.proofs.BuildLemmas.{AreSome}

@@ -25,7 +25,7 @@ use Rattle.lrc_sequence.specs.Sound.{IsDone, IsSound}
 use Rattle.lrc_visit_meaning.specs.Visits.{leaf_in, equation_of, values_in, tree_at, call_of, is_of_kind}
 use Rattle.lrc_visit_meaning.specs.Shown.{answer, visit_height}
 use Rattle.lrc_visit_meaning.specs.Demand.{Met, called, answered, built, equation_met, action_met, reach, visit_met, own_met, demand, demands}
-use Rattle.lrc_plan.proofs.ListLemmas.{member_first, member_later, member_cases, no_member, member_flat, member_of_flat, member_range, member_of_range, slice_of_member}
+use Rattle.lrc_order.proofs.MemberLemmas.{member_first, member_later, member_cases, no_member, member_flat, member_of_flat, member_range, member_of_range, slice_of_member}
 use Rattle.lrc_laws.proofs.FuelLemmas.{max_left, max_right}
 use Rattle.lrc_laws.proofs.ReadLemmas.{found_there}
 use Rattle.lrc_laws.proofs.NodeLemmas.{asked}

@@ -21,7 +21,8 @@ use Rattle.lrc_sequence.specs.declared.Bound.TheVariants as b
 use Rattle.lrc_sequence.specs.Items.{symbol_at, needs, tree_of, values_of_visit, firsts_of}
 use Rattle.lrc_visit_meaning.specs.Values.{value, value_in, binding_in, Call, Result, no_tree}
 use Rattle.lrc_visit_meaning.specs.Visits.{Held, values_in, leaf_in, equation_of, values_at, tree_at, call_of, given_by, is_of_kind, symbol_trees, step}
-use Rattle.lrc_plan.proofs.ListLemmas.{member_first, member_later, member_map, member_flat, member_filter, map_agree}
+use Rattle.lrc_order.proofs.MemberLemmas.{member_first, member_later, member_map, member_flat, member_filter}
+use Rattle.lrc_plan.proofs.ListLemmas.{map_agree}
 use Rattle.lrc_laws.proofs.HeldLemmas.{Agree, agree_left, agree_right, ReadsNeeds}
 
 module _ (vs ws : List Tree) (leaves others : ℕ → Option Tree) (same_leaves : (i : ℕ) → leaves i ≡ others i) where

@@ -27,7 +27,8 @@ use Rattle.lrc_sequence.specs.Items.{visits_of, symbol_at}
 use Rattle.lrc_sequence.specs.Sequences.{is_defined}
 use Rattle.lrc_visit_meaning.specs.Values.{value_in, no_tree}
 use Rattle.lrc_visit_meaning.specs.Visits.{Held, is_of_kind, are_of_kinds, leaf_in, symbol_trees, values_in, equation_of, evaluated, tree_at, one_visit, plain_visit}
-use Rattle.lrc_plan.proofs.ListLemmas.{map_agree, member_of_range}
+use Rattle.lrc_order.proofs.MemberLemmas.{member_of_range}
+use Rattle.lrc_plan.proofs.ListLemmas.{map_agree}
 use Rattle.lrc_laws.proofs.ReadLemmas.{value_same}
 use Rattle.lrc_laws.proofs.NodeLemmas.{Face, Serves, ServesOne, symbol_face}
 use Rattle.lrc_laws.proofs.PartLemmas.{left_kind, node_of_kind, leaf_same}

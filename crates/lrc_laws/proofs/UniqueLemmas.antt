@@ -20,7 +20,7 @@ use Rattle.lrc_sequence.specs.Items.{attrs_of_visit, values_of_visit}
 use Rattle.lrc_visit_meaning.specs.Values.{value_in, no_tree}
 use Rattle.lrc_visit_meaning.specs.Values.{value as datum}
 use Rattle.lrc_visit_meaning.specs.Visits.{Held, plain_visit}
-use Rattle.lrc_plan.proofs.ListLemmas.{member_of_map}
+use Rattle.lrc_order.proofs.MemberLemmas.{member_of_map}
 use Rattle.lrc_laws.proofs.FuelLemmas.{max_left, max_right}
 use Rattle.lrc_laws.proofs.HeldLemmas.{Agree}
 use Rattle.lrc_laws.proofs.NodeLemmas.{AllMade}

@@ -5,3 +5,4 @@ pub mod CrossingLemmas
 pub mod TransitiveLemmas
 pub mod GreatestLemmas
 pub mod TurnLemmas
+pub mod MemberLemmas

@@ -8,6 +8,7 @@ use Rattle.std.proofs.lemmas.List.Elements.{All-weaker, All-contains}
 use Rattle.lrc_meaning.specs.Grammar.{Grammar, attrs_of_sort, occurrences_of, is_production_right, is_well_formed}
 use Rattle.lrc_order.specs.declared.Need.{Need}
 use Rattle.lrc_order.specs.Ordered.{IsSmall, IsGivenThere}
+use Rattle.lrc_order.proofs.MemberLemmas.{member_of_map}
 use Rattle.lrc_ordered.proofs.PlaceLemmas.{places_within}
 use Rattle.lrc_ordered.proofs.RangeLemmas.{places_placed, needs_within, production_right}
 use Rattle.lrc_ordered.proofs.SettleLemmas.{all_tables}
@@ -28,14 +29,6 @@ pub item_at : {X : Type 0} (xs : List X) (i : ℕ) → i < length xs → (x : X)
 item_at [] i h = absurd (omega arith)
 item_at (x ∷ xs) zero h = (x, refl)
 item_at (x ∷ xs) (suc i) h = item_at xs i (omega arith)
-
-contains_map : {X Y : Type 0} (f : X → Y) (xs : List X) (y : Y) → Contains (map f xs) y → (x : X) × Contains xs x × (f x ≡ y)
-contains_map f [] y h = let small = h.1 in absurd (omega arith)
-contains_map f (x ∷ xs) y (zero, h, e) = (x, (zero, omega arith, refl), e)
-contains_map f (x ∷ xs) y (suc k, h, e) =
-    let rest = contains_map f xs y (k, omega arith, e) in
-    let at = rest.1 in
-    let small = at.1 in (rest.0, (suc at.0, omega arith, at.2), rest.2)
 
 -- The tables at first: the needs of each production, and of each sort the pairs that are given.
 pub record Begin (g : Grammar) (given : List Given) (relations sorts : List Pairs) (all : List (List Place)) : Type 0 where
@@ -132,7 +125,7 @@ begun g given relations olds sorts places needs made empty points put = record {
   needs = λ i p h is. subst (λ (q : Production). HasNeeds g.sorts q (table_at relations i)) is (zip_at (HasNeeds g.sorts) g.prods relations i p nothing needs h);
   places = λ i p h is.
       ap (λ (all : List (List Place)). get_or all i []) made ∙ map_at (places_of g.sorts) g.prods i [] p h ∙ ap (places_of g.sorts) is;
-  each = λ list m. contains_map (places_of g.sorts) g.prods list (subst (λ (all : List (List Place)). Contains all list) made m);
+  each = λ list m. member_of_map (places_of g.sorts) g.prods list (subst (λ (all : List (List Place)). Contains all list) made m);
   has_each = λ p m.
       let small = m.1 in
       let count = length-map g.prods (places_of g.sorts) in

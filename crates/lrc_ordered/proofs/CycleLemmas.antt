@@ -6,7 +6,7 @@ use Rattle.lrc_order.specs.Ordered.{IsAcyclic, IsFirstCycle}
 use Rattle.lrc_ordered.specs.Tables.{HasAt}
 use Rattle.lrc_ordered.specs.Cycles.{HasNoneBelow, HasNone, IsFirst}
 use Rattle.lrc_ordered.proofs.BridgeLemmas.{item_at}
-use Rattle.lrc_ordered.proofs.GatherLemmas.{same_item}
+use Rattle.std.proofs.lemmas.List.{get_or_default}
 
 slice_of : {X : Type 0} (xs : List X) (i : ℕ) (x : X) → i < length xs → get_or xs i x ≡ x → slice_get xs i ≡ Some x
 slice_of [] i x h e = absurd (omega arith)
@@ -17,7 +17,7 @@ module _ (prods : List Production) (Paths : Production → ℕ → ℕ → Type 
     (same : (i x y : ℕ) (p : Production) → i < length prods → get_or prods i p ≡ p → HasAt tables i x y ↔ Paths p x y) where
   none_below : (n : ℕ) → n < length prods + 1 → HasNoneBelow tables n → (i : ℕ) (d : Production) → i < n → i < length prods → IsAcyclic (Paths (get_or prods i d))
   none_below n small none i d h there x path =
-      none i h x ((same i x x (get_or prods i d) there (same_item prods i (get_or prods i d) d there)).1 path)
+      none i h x ((same i x x (get_or prods i d) there (get_or_default prods i (get_or prods i d) d there)).1 path)
 
   pub no_cycle : HasNone tables → All (λ p. IsAcyclic (Paths p)) prods
   no_cycle none i d h = none_below (length tables) (omega arith) none i d (omega arith) h

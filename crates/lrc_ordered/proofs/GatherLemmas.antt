@@ -1,16 +1,10 @@
 -- Passes over tables, one after another.
-use Rattle.std.proofs.Common.{◌≡◌, ◌≢◌, ℕ, zero, suc, ◌+◌, ◌<◌, Bool, true, false, ◌||◌, List, [], ◌∷◌, ◌++◌, length, take, set, get_or, Contains, ◌⊎◌, ◌↔◌, inl, inr, ap, sym, refl, ◌∙◌, subst, arith, add-one, take-suc, get_or-set_same, get_or-set_other, length-set}
-use Rattle.std.proofs.lemmas.Bool.{cases_eq, true≢false}
+use Rattle.std.proofs.Common.{◌≡◌, ◌≢◌, ℕ, ◌+◌, ◌<◌, Bool, true, false, ◌||◌, List, [], ◌∷◌, ◌++◌, length, take, set, get_or, Contains, ◌⊎◌, ◌↔◌, inl, inr, ap, sym, refl, ◌∙◌, subst, arith, add-one, take-suc, get_or-set_same, get_or-set_other, length-set}
+use Rattle.std.proofs.lemmas.Bool.{cases_eq, or_cases, or_parts}
 use Rattle.std.proofs.lemmas.List.Elements.{Contains-append_left, Contains-push, Contains-push_cases}
 use Rattle.lrc_graph.specs.Pairs.{Pairs, Has}
 use Rattle.lrc_order.specs.declared.Place.{Place}
 use Rattle.lrc_ordered.specs.Tables.{nothing, table_at, HasAt, Gathered, GatheredAll, JoinedAt, JoinedAmong, JoinedIn, FitsIn}
-
--- an item that is there is the same whatever stands for one that is not
-pub same_item : {X : Type 0} (xs : List X) (i : ℕ) (d e : X) → i < length xs → get_or xs i d ≡ get_or xs i e
-same_item [] i d e h = absurd (omega arith)
-same_item (x ∷ xs) zero d e h = refl
-same_item (x ∷ xs) (suc i) d e h = same_item xs i d e (omega arith)
 
 -- the members among one item more
 pub contains_more : {X : Type 0} (xs : List X) (i : ℕ) (x y : X) → i < length xs → x ≡ get_or xs i x
@@ -22,14 +16,6 @@ contains_more xs i x y h e =
           subst (λ ys. Contains ys y) (sym grown)
           (elim m [ inl earlier ↦ Contains-append_left (take i xs) (x ∷ []) y earlier | inr same ↦ subst (λ z. Contains (take i xs ++ x ∷ []) z) same (Contains-push (take i xs) x) ]),
     )
-
-or_true : (a b : Bool) → (a || b) ≡ true → (a ≡ true) ⊎ (b ≡ true)
-or_true true b e = inl refl
-or_true false b e = inr e
-
-or_false : (a b : Bool) → (a || b) ≡ false → (a ≡ false) × (b ≡ false)
-or_false true b e = absurd (true≢false e)
-or_false false b e = (refl, e)
 
 -- the tables with another at one place
 pub set_same : (tables : List Pairs) (s : ℕ) (t : Pairs) → s < length tables → table_at (set tables s t) s ≡ t
@@ -109,7 +95,7 @@ module _ (old now : List Pairs) (found r : Bool) (E F : ℕ → ℕ → ℕ → 
 
   more : (found || r) ≡ true → (t : ℕ) × (x : ℕ) × (y : ℕ) × HasAt after t x y × (¬ HasAt old t x y) × (t < length old) × (x < (table_at old t).points) × (y < (table_at old t).points)
   more e =
-      elim (or_true found r e) [
+      elim (or_cases found r e) [
         | inl f ↦ let m = before.more f in (m.0, m.1, m.2, grows m.0 m.1 m.2 m.3, m.4, m.5, m.6, m.7)
         | inr f ↦
             let m = pass.more f in (
@@ -126,7 +112,7 @@ module _ (old now : List Pairs) (found r : Bool) (E F : ℕ → ℕ → ℕ → 
 
   same : (found || r) ≡ false → (t x y : ℕ) → HasAt after t x y → HasAt old t x y
   same e t x y h =
-      let none = or_false found r e in
+      let none = or_parts found r e in
       elim (cases_eq t s) [
         | inl f ↦
             before.same none.0 t x y
@@ -190,7 +176,7 @@ gathered_then old now new found r E G F one other all = record {
         ]),
   );
   more = λ e.
-      elim (or_true found r e) [
+      elim (or_cases found r e) [
         | inl f ↦ let m = one.more f in (m.0, m.1, m.2, (other.exact m.0 m.1 m.2).1 (inl m.3), m.4, m.5, m.6, m.7)
         | inr f ↦ let m = other.more f in
             let e = one.tables in
@@ -199,7 +185,7 @@ gathered_then old now new found r E G F one other all = record {
             let x_in = m.6 in
             let y_in = m.7 in (m.0, m.1, m.2, m.3, λ h. m.4 ((one.exact m.0 m.1 m.2).1 (inl h)), omega arith, omega arith, omega arith)
       ];
-  same = λ e t x y h. let none = or_false found r e in one.same none.0 t x y (other.same none.1 t x y h);
+  same = λ e t x y h. let none = or_parts found r e in one.same none.0 t x y (other.same none.1 t x y h);
 }
 
 -- where only points count, tables with as many give the same

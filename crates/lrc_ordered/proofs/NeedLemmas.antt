@@ -1,6 +1,7 @@
 -- What expressions read, part by part.
-use Rattle.std.proofs.Common.{◌≡◌, ℕ, zero, suc, ◌+◌, ◌<◌, ◌⊎◌, inl, inr, ℤ, Bool, add-zero, arith, append-nil, append_assoc, sym, List, [], ◌∷◌, ◌++◌, map, length, drop, get_or, refl, ap, ◌∙◌}
+use Rattle.std.proofs.Common.{◌≡◌, ℕ, ◌+◌, ◌<◌, ◌⊎◌, inl, inr, ℤ, Bool, append-nil, append_assoc, sym, List, [], ◌∷◌, ◌++◌, map, length, drop, get_or, refl, ap, ◌∙◌}
 use Rattle.std.proofs.lemmas.List.{map-append}
+use Rattle.std.proofs.lemmas.List.FromFn.{map-range_with_len_more}
 use Rattle.std.specs.List.{range_with_len}
 use Rattle.lrc_base.specs.declared.expr.Op.{Op}
 use Rattle.lrc_base.specs.declared.expr.Expr.{Expr}
@@ -10,13 +11,6 @@ use Rattle.lrc_order.specs.declared.Need.{Need}
 use Rattle.lrc_meaning.specs.Expression.{expression, expression_row}
 use Rattle.lrc_order.specs.Needs.{need, reads, reads_of_each}
 use Rattle.lrc_grammar.proofs.FittingLemmas.{next_left}
-
-range_more : (start n : ℕ) → range_with_len start (n + 1) ≡ range_with_len start n ++ (start + n) ∷ []
-range_more start zero = simp add-zero refl
-range_more start (suc n) =
-    let e : suc n + 1 ≡ suc (n + 1) = omega arith in
-    let at : (start + 1) + n ≡ start + suc n = omega arith in
-    ap (range_with_len start) e ∙ ap (λ xs. start ∷ xs) (range_more (start + 1) n) ∙ ap (λ k. start ∷ (range_with_len (start + 1) n ++ k ∷ [])) at
 
 pub next_reads : (args : List Expr) (i : ℕ) (e : Expr) → i < length args → e ≡ get_or args i e
     → reads_of_each (expression_row (map expression (drop i args)))
@@ -75,8 +69,7 @@ module _ (target : ℕ) (xs : List Need) where
   pub row_more : (first start n : ℕ) → (xs ++ map (need first) (range_with_len start n)) ++ need first (start + n) ∷ [] ≡ xs ++ map (need first) (range_with_len start (n + 1))
   row_more first start n =
       append_assoc xs (map (need first) (range_with_len start n)) (need first (start + n) ∷ [])
-      ∙ ap (λ ys. xs ++ ys) (sym (map-append (need first) (range_with_len start n) ((start + n) ∷ [])))
-      ∙ ap (λ ys. xs ++ map (need first) ys) (sym (range_more start n))
+      ∙ ap (λ ys. xs ++ ys) (sym (map-range_with_len_more (need first) start n (start + n) refl))
 
   -- the same as the code finds it: an expression that is a variant, and the lists after each call
   pub nothing_read : (e : Expr)

@@ -1,5 +1,6 @@
 -- Rounds of gathering and spreading.
-use Rattle.lrc_ordered.proofs.GatherLemmas.{same_item, same_fits}
+use Rattle.std.proofs.lemmas.List.{get_or_default}
+use Rattle.lrc_ordered.proofs.GatherLemmas.{same_fits}
 use Rattle.std.proofs.Common.{◌≡◌, Bool, ℕ, ◌+◌, ◌<◌, false, List, [], length, get_or, All, ◌⊎◌, inl, inr, sym, refl, ◌∙◌, subst, arith}
 use Rattle.std.proofs.lemmas.List.Elements.{All-weaker}
 use Rattle.lrc_graph.specs.Pairs.{Pairs, Has, step, IsTransitive}
@@ -9,7 +10,7 @@ use Rattle.lrc_ordered.specs.Tables.{nothing, table_at, HasAt, GatheredAll, Join
 
 -- by the number of each table
 pub all_tables : (P : Pairs → Type 0) (xs : List Pairs) → ((i : ℕ) → i < length xs → P (table_at xs i)) → All P xs
-all_tables P xs each k d h = subst P (same_item xs k nothing d h) (each k h)
+all_tables P xs each k d h = subst P (get_or_default xs k nothing d h) (each k h)
 
 pub of_table : (P : Pairs → Type 0) (xs : List Pairs) → All P xs → (i : ℕ) → i < length xs → P (table_at xs i)
 of_table P xs all i h = all i nothing h

@@ -25,7 +25,7 @@ use Rattle.lrc_sequence.specs.declared.Bound.TheVariants as b
 use Rattle.lrc_sequence.specs.Items.{visit_of, visits_of, is_of, attrs_of_visit, values_of_visit, symbol_at, makes}
 use Rattle.lrc_sequence.specs.Sequences.{is_defined, segment}
 use Rattle.lrc_sequence.specs.Bindings.{gained}
-use Rattle.lrc_plan.proofs.ListLemmas.{member_cases, no_member, member_of_map, member_of_flat, member_of_filter, member_of_range}
+use Rattle.lrc_order.proofs.MemberLemmas.{member_cases, no_member, member_of_map, member_of_flat, member_of_filter, member_of_range}
 use Rattle.lrc_plan.proofs.DistinctLemmas.{Distinct}
 use Rattle.lrc_plan.proofs.OnceLemmas.{join_distinct, distinct_map, distinct_filter, distinct_range, distinct_flat, pairs_of_distinct, IsVisitOf, action_cases, segment_once, segments_apart, segment_actions}
 

@@ -30,7 +30,8 @@ use Rattle.lrc_sequence.specs.Items.{is_among, visits_of, visit_of, values_of_vi
 use Rattle.lrc_sequence.specs.Sequences.{State, is_defined}
 use Rattle.lrc_sequence.proofs.ItemLemmas.{contained}
 use Rattle.lrc_sequence.proofs.ExtendedLemmas.{partition_of, read_extended}
-use Rattle.lrc_sequence.proofs.MemberLemmas.{from_map, from_filter, in_head, in_tail, in_map, in_flat, in_row, same_item}
+use Rattle.std.proofs.lemmas.List.{get_or_default}
+use Rattle.lrc_order.proofs.MemberLemmas.{member_of_map, member_of_filter, member_first, member_later, member_map, member_flat, member_range}
 use Rattle.lrc_plan.proofs.WaitingLemmas.{defined_at}
 use Rattle.lrc_plan.proofs.OccurrenceLemmas.{stands_at}
 use Rattle.lrc_plan.proofs.InLemmas.{extended_within}
@@ -42,7 +43,7 @@ use Rattle.lrc_plan.proofs.TraceLemmas.{awaits_absent, in_values, visit_blocked,
 -- numbers of which no two are equal, and one more
 differ : (q : ℕ) (xs : List ℕ) → ((y : ℕ) → Contains xs y → q ≡ y → ⊥) → AllByRecursion (λ y. eqb q y ≡ false) xs
 differ q [] other = tt
-differ q (x ∷ xs) other = (ne_eqb q x (other x (in_head x xs)), differ q xs (λ y m. other y (in_tail x y xs m)))
+differ q (x ∷ xs) other = (ne_eqb q x (other x (member_first x xs)), differ q xs (λ y m. other y (member_later x xs y m)))
 
 distinct_more : (q : ℕ) (xs : List ℕ) → ((y : ℕ) → Contains xs y → q ≡ y → ⊥) → IsDistinct eqb xs → IsDistinct eqb (q ∷ xs)
 unfolding IsDistinct
@@ -155,17 +156,17 @@ module _ (g : Grammar) (found : Partitions) (are : ArePartitions g found) (there
           (in_values g.sorts parts false place.sort place.start j number attr is_attr synthesised refl)) in
           let left = still_visit g.sorts parts p t kept ended s j (b.Value o) s_there (omega arith) (omega arith) absent makes_it in
           let block = visit_blocked g.sorts parts p t kept ended s j s_there (omega arith) (omega arith) left in
-          let is_place : Contains (places_of g.sorts p) place = (suc s, omega arith, same_item (symbols_of g.sorts p) s place (left_place p) s_there) in
+          let is_place : Contains (places_of g.sorts p) place = (suc s, omega arith, get_or_default (symbols_of g.sorts p) s place (left_place p) s_there) in
           elim block.1.why [
             | inl tree ↦
                 let before = placed.tree_before block.0 tree in
                 let small = slice_get_within (attrs_of_sort g.sorts place.sort) number attr is_attr in
                 let row : Contains (tree_needs g.sorts place) (need block.0 o) =
                 subst (λ x. Contains (option_map_or (λ tr. map (need tr) (occurrences_at g.sorts place)) x []) (need block.0 o)) (sym tree)
-                (in_map (need block.0) (occurrences_at g.sorts place) o (in_row place.start (length (attrs_of_sort g.sorts place.sort)) o (omega arith) (omega arith))) in
+                (member_map (need block.0) (occurrences_at g.sorts place) o (member_range place.start (length (attrs_of_sort g.sorts place.sort)) o (omega arith) (omega arith))) in
                 back block.0 (omega arith) block.1.absent
                 (step block.0 o (inl (Contains-append_right (flat_map equation_needs p.equations) (flat_map (tree_needs g.sorts) (places_of g.sorts p)) (need block.0 o)
-                (in_flat (tree_needs g.sorts) (places_of g.sorts p) place (need block.0 o) is_place row))))
+                (member_flat (tree_needs g.sorts) (places_of g.sorts p) place (need block.0 o) is_place row))))
             | inr w ↦
                 let small = slice_get_within (attrs_of_sort g.sorts place.sort) w.0 w.1 w.3 in
                 let e = w.2 in
@@ -206,7 +207,7 @@ module _ (g : Grammar) (found : Partitions) (are : ArePartitions g found) (there
             | inr (inr h) ↦
                 let s = h.is_place.0 in
                 let s_there = h.is_place.1 in
-                let e : symbol_at g.sorts p s ≡ h.place = same_item (symbols_of g.sorts p) s (left_place p) h.place s_there ∙ h.is_place.2 in
+                let e : symbol_at g.sorts p s ≡ h.place = get_or_default (symbols_of g.sorts p) s (left_place p) h.place s_there ∙ h.is_place.2 in
                 by_direction o s x.0 h.attr h.number h.attr.inherited refl less defined (sym x.1 ∙ h.is) s_there
                 (h.stands ∙ ap (λ (q : Place). q.start + h.number) (sym e)) (ap (λ (q : Place). slice_get (attrs_of_sort g.sorts q.sort) h.number) e ∙ h.is_attr) absent back
           ]
@@ -269,8 +270,8 @@ module _ (g : Grammar) (found : Partitions) (are : ArePartitions g found) (there
         pub no_eval_left : visits_of parts p.left ≤ v → (o : ℕ) → Contains t.left (a.Eval o) → ⊥
         no_eval_left last o left =
             let y = awaits_absent g.sorts parts p t kept ended (a.Eval o) left in
-            let n = from_map (λ (m : Need). b.Value m.first) (filter (λ (m : Need). m.then == o) (extended_of g.sorts parts p)) y.0 y.1 in
-            let passes = from_filter (λ (m : Need). m.then == o) (extended_of g.sorts parts p) n.0 n.1 in
+            let n = member_of_map (λ (m : Need). b.Value m.first) (filter (λ (m : Need). m.then == o) (extended_of g.sorts parts p)) y.0 y.1 in
+            let passes = member_of_filter (λ (m : Need). m.then == o) (extended_of g.sorts parts p) n.0 n.1 in
             let within = All-contains (IsNeedWithin total) (extended_of g.sorts parts p) n.0 (extended_within g.sorts parts g.prods p right) passes.0 in
             none_absent last n.0.first within.0 (subst (λ z. is_among t.available z ≡ false) (sym n.2) y.2)
 

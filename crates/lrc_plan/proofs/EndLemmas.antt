@@ -12,13 +12,14 @@ use Rattle.lrc_sequence.specs.declared.Bound.{Bound}
 use Rattle.lrc_sequence.specs.Items.{makes}
 use Rattle.lrc_sequence.specs.Sequences.{State, pick, is_ready, did, greedy, actions_of}
 use Rattle.lrc_sequence.proofs.GreedyLemmas.{pick_over, greedy_keeps}
-use Rattle.lrc_sequence.proofs.MemberLemmas.{in_head, in_tail, cases_of, same_item}
+use Rattle.std.proofs.lemmas.List.{get_or_default}
+use Rattle.lrc_order.proofs.MemberLemmas.{member_first, member_later, member_cases}
 
 -- where a test does not hold of all, it fails at one
 fails_over : (test : Bound → Bool) (x : Bound) (xs : List Bound) (b : Bool) → test x ≡ b → (list_all test xs ≡ false → (y : Bound) × Contains xs y × (test y ≡ false))
     → (test x && list_all test xs) ≡ false → (y : Bound) × Contains (x ∷ xs) y × (test y ≡ false)
-fails_over test x xs true e later h = let r = later (ap (λ c. c && list_all test xs) (sym e) ∙ h) in (r.0, in_tail x r.0 xs r.1, r.2)
-fails_over test x xs false e later h = (x, in_head x xs, e)
+fails_over test x xs true e later h = let r = later (ap (λ c. c && list_all test xs) (sym e) ∙ h) in (r.0, member_later x xs r.0 r.1, r.2)
+fails_over test x xs false e later h = (x, member_first x xs, e)
 
 pub fails_at : (test : Bound → Bool) (xs : List Bound) → list_all test xs ≡ false → (y : Bound) × Contains xs y × (test y ≡ false)
 fails_at test [] h = absurd (true≢false h)
@@ -52,9 +53,9 @@ picked_behind : (x : Action) (xs : List Action) (o : Option (Action × List Acti
 picked_behind x xs None h = tt
 picked_behind x xs (Some found) h = (
   λ y m.
-      elim (cases_of x y xs m) [
-        | inl e ↦ inr (subst (λ z. Contains (x ∷ found.1) z) e (in_head x found.1))
-        | inr n ↦ elim (h.0 y n) [ inl same ↦ inl same | inr k ↦ inr (in_tail x y found.1 k) ]
+      elim (member_cases x xs y m) [
+        | inl e ↦ inr (subst (λ z. Contains (x ∷ found.1) z) e (member_first x found.1))
+        | inr n ↦ elim (h.0 y n) [ inl same ↦ inl same | inr k ↦ inr (member_later x found.1 y k) ]
       ],
   ap suc h.1,
 )
@@ -62,7 +63,7 @@ picked_behind x xs (Some found) h = (
 picked_of : (test : Action → Bool) (xs : List Action) → PickedOf xs (pick test xs)
 picked_of test [] = tt
 picked_of test (x ∷ xs) =
-    pick_over test x xs (PickedOf (x ∷ xs)) (λ e. (λ y m. elim (cases_of x y xs m) [ inl same ↦ inl (sym same) | inr n ↦ inr n ], refl))
+    pick_over test x xs (PickedOf (x ∷ xs)) (λ e. (λ y m. elim (member_cases x xs y m) [ inl same ↦ inl (sym same) | inr n ↦ inr n ], refl))
     (λ e o is. picked_behind x xs o (subst (PickedOf xs) is (picked_of test xs)))
 
 module _ (sorts : List Sort) (parts : List Partition) (p : Production) where
@@ -82,7 +83,7 @@ module _ (sorts : List Sort) (parts : List Partition) (p : Production) where
                         inr (λ k d less.
                         let y = get_or (makes sorts parts p x) k d in
                         Contains-append_right s.available (makes sorts parts p found.0) y
-                        (subst (λ z. Contains (makes sorts parts p z) y) same (k, less, same_item (makes sorts parts p x) k y d less)))
+                        (subst (λ z. Contains (makes sorts parts p z) y) same (k, less, get_or_default (makes sorts parts p x) k y d less)))
                     | inr other ↦ inl other
                   ]
               | inr made ↦ inr (λ k d less. Contains-append_left s.available (makes sorts parts p found.0) (get_or (makes sorts parts p x) k d) (made k d less))
@@ -102,7 +103,7 @@ module _ (sorts : List Sort) (parts : List Partition) (p : Production) where
               | inr done ↦ inr (Contains-append_left s.done (found.0 ∷ []) x done)
               | inl left ↦
                   elim (picked.0 x left) [
-                    | inl same ↦ inr (Contains-append_right s.done (found.0 ∷ []) x (subst (λ z. Contains (found.0 ∷ []) z) (sym same) (in_head found.0 [])))
+                    | inl same ↦ inr (Contains-append_right s.done (found.0 ∷ []) x (subst (λ z. Contains (found.0 ∷ []) z) (sym same) (member_first found.0 [])))
                     | inr other ↦ inl other
                   ]
             ];

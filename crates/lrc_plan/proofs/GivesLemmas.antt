@@ -22,7 +22,8 @@ use Rattle.lrc_sequence.specs.Bindings.{items_of, gained, used, binding}
 use Rattle.lrc_sequence.specs.Sound.{handed_in, GivesAll}
 use Rattle.lrc_sequence.proofs.ItemLemmas.{among}
 use Rattle.lrc_sequence.proofs.GreedyLemmas.{greedy_keeps}
-use Rattle.lrc_sequence.proofs.MemberLemmas.{same_item, in_flat, in_filter, in_row}
+use Rattle.lrc_order.proofs.MemberLemmas.{member_flat, member_filter, member_range}
+use Rattle.std.proofs.lemmas.List.{get_or_default}
 use Rattle.lrc_sequence.proofs.ReadyLemmas.{RunsFrom, runs_on, IsEarlier, made_by, entering, segment_at}
 use Rattle.lrc_plan.proofs.ListedLemmas.{value_listed}
 use Rattle.lrc_plan.proofs.InLemmas.{production_is_right}
@@ -70,7 +71,7 @@ module _ (sorts : List Sort) (parts : List Partition) (p : Production) where
       λ u one le.
       stays sorts parts p (entering sorts parts p u) (length s.left) s1
       (elim (cases_eq u v) [
-        | inl e ↦ λ k d less. Contains-append_right s.available E (get_or (entering sorts parts p u) k d) (subst (λ z. Contains (entering sorts parts p z) (get_or (entering sorts parts p u) k d)) e (k, less, same_item (entering sorts parts p u) k (get_or (entering sorts parts p u) k d) d less))
+        | inl e ↦ λ k d less. Contains-append_right s.available E (get_or (entering sorts parts p u) k d) (subst (λ z. Contains (entering sorts parts p z) (get_or (entering sorts parts p u) k d)) e (k, less, get_or_default (entering sorts parts p u) k (get_or (entering sorts parts p u) k d) d less))
         | inr ne ↦ λ k d less. Contains-append_left s.available E (get_or (entering sorts parts p u) k d) (taken u one (omega arith) k d less)
       ]) in
       let moved = greedy_keeps sorts parts p (IsMoved sorts parts p s.left) (moves_on sorts parts p s.left) (length s.left) s1 (record { moved = λ x m. inl m }) in
@@ -123,7 +124,7 @@ module _ (g : Grammar) (well : IsTrue (is_well_formed g)) (found : Partitions) (
       let values = values_of_visit sorts parts false p.left 0 v in
       let y = get_or values k d in
       let end = end_of sorts parts p v one le in
-      let r = from_values sorts parts false p.left 0 v y (k, less, same_item values k y d less) in
+      let r = from_values sorts parts false p.left 0 v y (k, less, get_or_default values k y d less) in
       let small = slice_get_within (attrs_of_sort sorts p.left) r.number r.attr r.is_attr in
       let within = places_within sorts p 0 (left_place p) (omega arith) in
       let zero_more : 0 + r.number ≡ r.number = omega arith in
@@ -148,12 +149,12 @@ module _ (g : Grammar) (well : IsTrue (is_well_formed g)) (found : Partitions) (
             let to = used sorts parts p v (segment sorts parts p v) in
             let in_from : is_among from y ≡ true = among from y old.gained_there in
             let in_to : is_among to y ≡ true =
-            among to y (Contains-append_right (flat_map (needs sorts parts p) (segment sorts parts p v)) values y (k, less, same_item values k y d less)) in
+            among to y (Contains-append_right (flat_map (needs sorts parts p) (segment sorts parts p v)) values y (k, less, get_or_default values k y d less)) in
             let listed = subst (λ z. Contains (items_of sorts parts p) z) is (value_listed sorts parts g.prods p right r.number (omega arith)) in
             Contains-append_left (handed_in sorts parts p v) M y
             (Contains-append_right E rest y
-            (in_flat (λ w. binding sorts parts p w v) (range_with_len 1 (v - 1)) u y (in_row 1 (v - 1) u first (omega arith))
-            (in_filter (λ x. is_among from x && is_among to x) (items_of sorts parts p) y listed (rw (in_from, in_to) refl))))
+            (member_flat (λ w. binding sorts parts p w v) (range_with_len 1 (v - 1)) u y (member_range 1 (v - 1) u first (omega arith))
+            (member_filter (λ x. is_among from x && is_among to x) (items_of sorts parts p) y listed (rw (in_from, in_to) refl))))
       ]
 
 pub ordered_gives : (g : Grammar) → IsTrue (is_well_formed g) → (found : Partitions) → ArePartitions g found → All (IsGivenThere g.sorts) found.given → IsOrdered g found.given

@@ -21,7 +21,7 @@ use Rattle.lrc_sequence.specs.Items.{visits_of, values_of_visit, tree_of, taken,
 use Rattle.lrc_sequence.specs.Sequences.{is_defined, visits_at, actions_of}
 use Rattle.lrc_sequence.specs.Bindings.{bindings_at, items_of}
 use Rattle.lrc_sequence.specs.Sound.{IsReady}
-use Rattle.lrc_sequence.proofs.MemberLemmas.{in_map, in_flat, in_row}
+use Rattle.lrc_order.proofs.MemberLemmas.{member_map, member_flat, member_range}
 use Rattle.lrc_sequence.proofs.ReadyLemmas as runs
 use Rattle.lrc_plan.proofs.PairLemmas.{all_front}
 use Rattle.lrc_plan.proofs.InLemmas.{in_range, values_in, production_is_right}
@@ -39,15 +39,15 @@ module _ (sorts : List Sort) (parts : List Partition) (prods : List Production) 
   pub value_listed : (o : ℕ) → o < total → Listed (b.Value o)
   value_listed o less =
       Contains-append_left (map b.Value (range_with_len 0 total)) (flat_map (λ s. bindings_at s (visits_at_symbol s)) (range_with_len 0 (length (symbols_of sorts p)))) (b.Value o)
-      (in_map b.Value (range_with_len 0 total) o (in_row 0 total o (omega arith) (omega arith)))
+      (member_map b.Value (range_with_len 0 total) o (member_range 0 total o (omega arith) (omega arith)))
 
   kid_listed : (s i j : ℕ) → s < length (symbols_of sorts p) → 1 ≤ i → i < j → j ≤ visits_at_symbol s → Listed (b.Kid s i j)
   kid_listed s i j there one less le =
       let n = visits_at_symbol s in
       Contains-append_right (map b.Value (range_with_len 0 total)) (flat_map (λ t. bindings_at t (visits_at_symbol t)) (range_with_len 0 (length (symbols_of sorts p)))) (b.Kid s i j)
-      (in_flat (λ t. bindings_at t (visits_at_symbol t)) (range_with_len 0 (length (symbols_of sorts p))) s (b.Kid s i j) (in_row 0 (length (symbols_of sorts p)) s (omega arith) (omega arith))
-      (in_flat (λ k. map (b.Kid s k) (range_with_len (k + 1) (n - k))) (range_with_len 1 n) i (b.Kid s i j) (in_row 1 n i one (omega arith))
-      (in_map (b.Kid s i) (range_with_len (i + 1) (n - i)) j (in_row (i + 1) (n - i) j (omega arith) (omega arith)))))
+      (member_flat (λ t. bindings_at t (visits_at_symbol t)) (range_with_len 0 (length (symbols_of sorts p))) s (b.Kid s i j) (member_range 0 (length (symbols_of sorts p)) s (omega arith) (omega arith))
+      (member_flat (λ k. map (b.Kid s k) (range_with_len (k + 1) (n - k))) (range_with_len 1 n) i (b.Kid s i j) (member_range 1 n i one (omega arith))
+      (member_map (b.Kid s i) (range_with_len (i + 1) (n - i)) j (member_range (i + 1) (n - i) j (omega arith) (omega arith)))))
 
   tree_listed : (place : Place) (tree : Option ℕ) → place.tree ≡ tree → IsPlaced sorts place → place.start ≤ total → All Listed (option_map_or (λ t. b.Value t ∷ []) tree [])
   tree_listed place None e placed le = All-nil Listed

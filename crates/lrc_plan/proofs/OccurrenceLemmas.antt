@@ -16,7 +16,7 @@ use Rattle.lrc_meaning.specs.Grammar.{Occurrence, attrs_of_sort, attrs_of, own_o
 use Rattle.lrc_order.specs.declared.Place.{Place}
 use Rattle.lrc_order.specs.Needs.{symbol_of, kid_symbols, extra_symbols, own_end, kids_end, symbols_of}
 use Rattle.lrc_ordered.proofs.BridgeLemmas.{item_at}
-use Rattle.lrc_sequence.proofs.MemberLemmas.{in_head}
+use Rattle.lrc_order.proofs.MemberLemmas.{member_first}
 
 -- occurrence number `at` is that of an attribute of one of the places
 pub record OfPlace (sorts : List Sort) (places : List Place) (at : ℕ) (x : Occurrence) : Type 0 where
@@ -43,7 +43,7 @@ module _ (sorts : List Sort) where
       let attr = item_at (attrs_of_sort sorts s) i (omega arith) in
       record {
         place = record { sort = s; start = start; tree = tree };
-        is_place = in_head (record { sort = s; start = start; tree = tree }) [];
+        is_place = member_first (record { sort = s; start = start; tree = tree }) [];
         number = i;
         attr = attr.0;
         is_attr = slice_get-get_or (attrs_of_sort sorts s) i attr.0 (omega arith) ∙ ap Some attr.1;

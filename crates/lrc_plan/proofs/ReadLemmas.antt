@@ -2,13 +2,12 @@
 use Rattle.std.proofs.Common.{◌≡◌, ℕ, ◌+◌, ◌-◌, ◌<◌, ◌≤◌, List, [], length, map, get_or, slice_get, Option, Some, sym, ap, ◌∙◌, subst, arith}
 use Rattle.std.specs.Prelude.{IfSome}
 use Rattle.std.proofs.lemmas.Option.{slice_get-get_or}
-use Rattle.std.proofs.lemmas.List.{get_or-map, length-map}
+use Rattle.std.proofs.lemmas.List.{get_or-map, length-map, get_or_default}
 use Rattle.std.proofs.lemmas.List.FromFn.{get_or-map-range_with_len, length-map-range_with_len}
 use Rattle.lrc_base.specs.declared.grammar.Sort.{Sort}
 use Rattle.lrc_base.specs.declared.grammar.Production.{Production}
 use Rattle.lrc_order.specs.declared.Partition.{Partition}
 use Rattle.lrc_ordered.proofs.BridgeLemmas.{item_at}
-use Rattle.lrc_ordered.proofs.GatherLemmas.{same_item}
 use Rattle.lrc_sequence.specs.declared.Action.{Action}
 use Rattle.lrc_sequence.specs.declared.Bound.{Bound}
 use Rattle.lrc_sequence.specs.declared.Sequences.{Sequences}
@@ -44,7 +43,7 @@ module _ (sorts : List Sort) (parts : List Partition) where
     pub actions_read : (actions : List (List Action)) (v : ℕ) (result : List Action) → actions ≡ segments_of sorts parts p → 1 ≤ v → v ≤ visits_of parts p.left → result ≡ get_or actions (v - 1) result
         → result ≡ segment sorts parts p v
     actions_read actions v result are one le is =
-        is ∙ same_item actions (v - 1) result [] (actions_within actions v are one le) ∙ ap (λ (xs : List (List Action)). get_or xs (v - 1) []) are
+        is ∙ get_or_default actions (v - 1) result [] (actions_within actions v are one le) ∙ ap (λ (xs : List (List Action)). get_or xs (v - 1) []) are
 
     pub bindings_within : (all : List (List (List Bound))) (v : ℕ) → all ≡ bindings_of sorts parts p → 1 ≤ v → v ≤ visits_of parts p.left → v - 1 < length all
     bindings_within all v are one le =

@@ -14,7 +14,7 @@ use Rattle.lrc_plan.specs.ItemSets.{Flags, holds, HasRoom}
 use Rattle.lrc_plan.specs.Waiting.{waiting_of}
 use Rattle.lrc_plan.specs.Running.{unchecked, IsChecked, IsLeft, StandsFor, StandsAt, FoundSo}
 use Rattle.lrc_plan.proofs.ReadyLemmas.{still_checked}
-use Rattle.lrc_plan.proofs.WaitingLemmas.{map_twice}
+use Rattle.std.proofs.lemmas.Simd.{map-map}
 
 -- with more items available, and room for as many
 pub left_grown : (f g : Flags) (left : List Waiting) → IsLeft f left → ((x : Bound) → IsTrue (holds f x) → IsTrue (holds g x)) → ((x : Bound) → HasRoom f x → HasRoom g x) → IsLeft g left
@@ -37,7 +37,7 @@ module _ (sorts : List Sort) (parts : List Partition) (p : Production) where
   starts f left segments is empty none = record {
     state = record { done = []; left = actions_of sorts parts p; available = [] };
     stands = record {
-      left_is = ap (map unchecked) is ∙ map_twice unchecked (waiting_of sorts parts p) (actions_of sorts parts p);
+      left_is = ap (map unchecked) is ∙ map-map unchecked (waiting_of sorts parts p) (actions_of sorts parts p);
       available_is = λ x. (λ h. absurd (empty x h), λ m. let l = m.1 in absurd (omega arith));
     };
     rest =

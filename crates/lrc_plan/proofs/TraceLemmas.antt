@@ -21,7 +21,7 @@ use Rattle.lrc_sequence.specs.declared.Bound.TheVariants as b
 use Rattle.lrc_sequence.specs.Items.{is_among, visits_of, visit_of, is_of, attrs_of_visit, values_of_visit, tree_of, given_back, extended_of, symbol_at, awaits}
 use Rattle.lrc_sequence.specs.Sequences.{State, is_ready, is_defined, visits_at, actions_of}
 use Rattle.lrc_sequence.proofs.ItemLemmas.{among}
-use Rattle.lrc_sequence.proofs.MemberLemmas.{in_head, in_map, in_flat, in_filter, in_row, from_map, from_filter, from_row}
+use Rattle.lrc_order.proofs.MemberLemmas.{member_first, member_map, member_flat, member_filter, member_range, member_of_map, member_of_filter, member_of_range}
 use Rattle.lrc_plan.proofs.EndLemmas.{fails_at, IsKept, AllDone}
 
 -- the attribute is of the direction
@@ -46,9 +46,9 @@ module _ (sorts : List Sort) (parts : List Partition) where
       let attrs = attrs_of_sort sorts s in
       let one = is_direction attrs inherited x attr is direction in
       let two : (visit_of parts s x == v) ≡ true = eq-eqb (visit_of parts s x) v visit in
-      in_map (λ y. b.Value (start + y)) (attrs_of_visit sorts parts inherited s v) x
-      (in_filter (λ y. is_of attrs inherited y && (visit_of parts s y == v)) (range_with_len 0 (length attrs)) x
-      (in_row 0 (length attrs) x (omega arith) (let l = slice_get_within attrs x attr is in omega arith)) (rw (one, two) refl))
+      member_map (λ y. b.Value (start + y)) (attrs_of_visit sorts parts inherited s v) x
+      (member_filter (λ y. is_of attrs inherited y && (visit_of parts s y == v)) (range_with_len 0 (length attrs)) x
+      (member_range 0 (length attrs) x (omega arith) (let l = slice_get_within attrs x attr is in omega arith)) (rw (one, two) refl))
 
   -- an attribute among those of a visit
   pub record FromValues (inherited : Bool) (s start v : ℕ) (y : Bound) : Type 0 where
@@ -62,8 +62,8 @@ module _ (sorts : List Sort) (parts : List Partition) where
   pub from_values : (inherited : Bool) (s start v : ℕ) (y : Bound) → Contains (values_of_visit sorts parts inherited s start v) y → FromValues inherited s start v y
   from_values inherited s start v y m =
       let attrs = attrs_of_sort sorts s in
-      let at = from_map (λ x. b.Value (start + x)) (attrs_of_visit sorts parts inherited s v) y m in
-      let passes = from_filter (λ x. is_of attrs inherited x && (visit_of parts s x == v)) (range_with_len 0 (length attrs)) at.0 at.1 in
+      let at = member_of_map (λ x. b.Value (start + x)) (attrs_of_visit sorts parts inherited s v) y m in
+      let passes = member_of_filter (λ x. is_of attrs inherited x && (visit_of parts s x == v)) (range_with_len 0 (length attrs)) at.0 at.1 in
       let both = and_parts (is_of attrs inherited at.0) (visit_of parts s at.0 == v) passes.1 in
       let attr = of_direction attrs inherited at.0 (slice_get attrs at.0) refl both.0 in
       record { number = at.0; attr = attr.0; is_attr = attr.1; direction = attr.2; visit = eqb-true (visit_of parts s at.0) v both.1; is = at.2 }
@@ -82,14 +82,14 @@ module _ (sorts : List Sort) (parts : List Partition) where
     visit_there s j there one le =
         let n = visits_of parts (symbol_at sorts p s).sort in
         Contains-append_right (map a.Eval (filter (is_defined (occurrences_of sorts p)) (range_with_len 0 (length (occurrences_of sorts p))))) (flat_map (visits_at sorts parts p) (range_with_len 0 (length symbols))) (a.Visit s j)
-        (in_flat (visits_at sorts parts p) (range_with_len 0 (length symbols)) s (a.Visit s j) (in_row 0 (length symbols) s (omega arith) (omega arith))
-        (in_map (a.Visit s) (range_with_len 1 n) j (in_row 1 n j one (omega arith))))
+        (member_flat (visits_at sorts parts p) (range_with_len 0 (length symbols)) s (a.Visit s j) (member_range 0 (length symbols) s (omega arith) (omega arith))
+        (member_map (a.Visit s) (range_with_len 1 n) j (member_range 1 n j one (omega arith))))
 
     pub eval_there : (o : ℕ) → o < length (occurrences_of sorts p) → is_defined (occurrences_of sorts p) o ≡ true → Contains (actions_of sorts parts p) (a.Eval o)
     eval_there o less defined =
         Contains-append_left (map a.Eval (filter (is_defined (occurrences_of sorts p)) (range_with_len 0 (length (occurrences_of sorts p))))) (flat_map (visits_at sorts parts p) (range_with_len 0 (length symbols))) (a.Eval o)
-        (in_map a.Eval (filter (is_defined (occurrences_of sorts p)) (range_with_len 0 (length (occurrences_of sorts p)))) o
-        (in_filter (is_defined (occurrences_of sorts p)) (range_with_len 0 (length (occurrences_of sorts p))) o (in_row 0 (length (occurrences_of sorts p)) o (omega arith) (omega arith)) defined))
+        (member_map a.Eval (filter (is_defined (occurrences_of sorts p)) (range_with_len 0 (length (occurrences_of sorts p)))) o
+        (member_filter (is_defined (occurrences_of sorts p)) (range_with_len 0 (length (occurrences_of sorts p))) o (member_range 0 (length (occurrences_of sorts p)) o (omega arith) (omega arith)) defined))
 
     -- why an action that is left is not ready
     pub awaits_absent : (x : Action) → Contains t.left x → (y : Bound) × Contains (awaits sorts parts p x) y × Absent y
@@ -131,8 +131,8 @@ module _ (sorts : List Sort) (parts : List Partition) where
                     let v = r.visit in
                     (place.start + r.number, record { absent = subst Absent (sym r.is) y.2; why = inr (r.number, r.attr, refl, r.is_attr, r.direction, omega arith) })
                 | inr kid ↦
-                    let u = from_map (λ k. b.Kid s k j) (range_with_len 1 (j - 1)) y.0 kid in
-                    let range = from_row 1 (j - 1) u.0 u.1 in
+                    let u = member_of_map (λ k. b.Kid s k j) (range_with_len 1 (j - 1)) y.0 kid in
+                    let range = member_of_range 1 (j - 1) u.0 u.1 in
                     let low = range.0 in
                     let high = range.1 in
                     let n = visits_of parts place.sort in
@@ -143,7 +143,7 @@ module _ (sorts : List Sort) (parts : List Partition) where
                       | inr made ↦
                           let there_now = All-contains (Contains t.available) (given_back sorts parts place s u.0) (b.Kid s u.0 j) made
                           (Contains-append_right (values_of_visit sorts parts false place.sort place.start u.0) (map (λ w. b.Kid s u.0 w) (range_with_len (u.0 + 1) (n - u.0))) (b.Kid s u.0 j)
-                          (in_map (λ w. b.Kid s u.0 w) (range_with_len (u.0 + 1) (n - u.0)) j (in_row (u.0 + 1) (n - u.0) j (omega arith) (omega arith)))) in
+                          (member_map (λ w. b.Kid s u.0 w) (range_with_len (u.0 + 1) (n - u.0)) j (member_range (u.0 + 1) (n - u.0) j (omega arith) (omega arith)))) in
                           absurd (not_absent (b.Kid s u.0 j) there_now (subst Absent (sym u.2) y.2))
                     ]
               ]
@@ -165,10 +165,10 @@ module _ (sorts : List Sort) (parts : List Partition) where
         → (n : Need) × Contains (extended_of sorts parts p) n × (n.then ≡ o) × Absent (b.Value n.first)
     still_eval o less defined absent =
         elim (kept.kept (a.Eval o) (eval_there o less defined)) [
-          | inr made ↦ absurd (not_absent (b.Value o) (All-contains (Contains t.available) (b.Value o ∷ []) (b.Value o) made (in_head (b.Value o) [])) absent)
+          | inr made ↦ absurd (not_absent (b.Value o) (All-contains (Contains t.available) (b.Value o ∷ []) (b.Value o) made (member_first (b.Value o) [])) absent)
           | inl left ↦
               let y = awaits_absent (a.Eval o) left in
-              let n = from_map (λ (m : Need). b.Value m.first) (filter (λ (m : Need). m.then == o) (extended_of sorts parts p)) y.0 y.1 in
-              let passes = from_filter (λ (m : Need). m.then == o) (extended_of sorts parts p) n.0 n.1 in
+              let n = member_of_map (λ (m : Need). b.Value m.first) (filter (λ (m : Need). m.then == o) (extended_of sorts parts p)) y.0 y.1 in
+              let passes = member_of_filter (λ (m : Need). m.then == o) (extended_of sorts parts p) n.0 n.1 in
               (n.0, passes.0, eqb-true n.0.then o passes.1, subst Absent (sym n.2) y.2)
         ]

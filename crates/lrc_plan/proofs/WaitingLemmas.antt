@@ -1,10 +1,11 @@
 -- The actions that wait are those of the definition.
-use Rattle.std.proofs.Common.{◌≡◌, ℕ, ◌<◌, ◌++◌, List, [], ◌∷◌, length, map, get_or, Some, false, refl, sym, ap, ◌∙◌, arith}
+use Rattle.std.proofs.Common.{◌≡◌, ℕ, ◌<◌, ◌++◌, List, [], ◌∷◌, length, map, get_or, Some, false, sym, ap, ◌∙◌, arith}
 use Rattle.std.specs.Prelude.{filter, flat_map}
 use Rattle.std.specs.List.{range_with_len}
 use Rattle.std.specs.Option.{option_map_or}
 use Rattle.std.proofs.lemmas.Option.{slice_get-get_or}
-use Rattle.std.proofs.lemmas.List.{map-append}
+use Rattle.std.proofs.lemmas.List.{map-append, get_or_default}
+use Rattle.std.proofs.lemmas.Simd.{map-map}
 use Rattle.std.proofs.lemmas.List.FromFn.{get_or-map-range_with_len}
 use Rattle.lrc_base.specs.declared.grammar.Sort.{Sort}
 use Rattle.lrc_base.specs.declared.grammar.Production.{Production}
@@ -17,18 +18,10 @@ use Rattle.lrc_sequence.specs.declared.Bound.{Bound}
 use Rattle.lrc_sequence.specs.declared.Bound.TheVariants as item
 use Rattle.lrc_sequence.specs.Items.{visits_of, symbol_at, firsts_of, extended_of}
 use Rattle.lrc_sequence.specs.Sequences.{is_defined, visits_at, actions_of}
-use Rattle.lrc_ordered.proofs.GatherLemmas.{same_item}
 use Rattle.lrc_plan.specs.declared.waiting.Waiting.{Waiting}
 use Rattle.lrc_plan.specs.Waiting.{waiting_of, waiting_evaluation, waiting_visit}
 use Rattle.lrc_plan.proofs.VisitLemmas.{passed, passed_same}
-
-pub map_twice : {X Y Z : Type 0} (f : Y → Z) (g : X → Y) (xs : List X) → map f (map g xs) ≡ map (λ x. f (g x)) xs
-map_twice f g [] = refl
-map_twice f g (x ∷ xs) = ap (λ ys. f (g x) ∷ ys) (map_twice f g xs)
-
-pub map_flat : {X Y Z : Type 0} (f : Y → Z) (g : X → List Y) (xs : List X) → map f (flat_map g xs) ≡ flat_map (λ x. map f (g x)) xs
-map_flat f g [] = refl
-map_flat f g (x ∷ xs) = map-append f (g x) (flat_map g xs) ∙ ap (λ ys. map f (g x) ++ ys) (map_flat f g xs)
+use Rattle.lrc_plan.proofs.ListLemmas.{map_flat}
 
 pub defined_at : (occurrences : List Occurrence) (i : ℕ) (x : Occurrence) → i < length occurrences → x ≡ get_or occurrences i x → is_defined occurrences i ≡ x.is_defined
 defined_at occurrences i x there is =
@@ -38,22 +31,22 @@ pub evaluation_made : (needs awaits : List (List Bound)) (o : ℕ) (needed await
     → needed ≡ get_or needs o needed → awaited ≡ get_or awaits o awaited
     → record { step = record { action = a.Eval o; needs = needed; makes = item.Value o ∷ [] }; awaits = awaited; checked = 0 } ≡ waiting_evaluation needs awaits o
 evaluation_made needs awaits o needed awaited one other n w =
-    let x = n ∙ same_item needs o needed [] one in
-    let y = w ∙ same_item awaits o awaited [] other in
+    let x = n ∙ get_or_default needs o needed [] one in
+    let y = w ∙ get_or_default awaits o awaited [] other in
     ap (λ (list : List Bound). record { step = record { action = a.Eval o; needs = list; makes = item.Value o ∷ [] }; awaits = awaited; checked = 0 }) x
     ∙ ap (λ (list : List Bound). record { step = record { action = a.Eval o; needs = get_or needs o []; makes = item.Value o ∷ [] }; awaits = list; checked = 0 }) y
 
 module _ (sorts : List Sort) (parts : List Partition) (p : Production) where
   pub symbol_found : (symbols : List Place) (s : ℕ) (d : Place) → symbols ≡ symbols_of sorts p → s < length symbols → get_or symbols s d ≡ symbol_at sorts p s
   symbol_found symbols s d are there =
-      same_item symbols s d (left_place p) there ∙ ap (λ (all : List Place). get_or all s (left_place p)) are
+      get_or_default symbols s d (left_place p) there ∙ ap (λ (all : List Place). get_or all s (left_place p)) are
 
   pub visits_wait : (symbols : List Place) (s : ℕ) (d : Place) → symbols ≡ symbols_of sorts p → s < length symbols
       → map (waiting_visit sorts parts (get_or symbols s d) s) (range_with_len 1 (visits_of parts (get_or symbols s d).sort))
       ≡ map (waiting_of sorts parts p) (visits_at sorts parts p s)
   visits_wait symbols s d are there =
       ap (λ (place : Place). map (waiting_visit sorts parts place s) (range_with_len 1 (visits_of parts place.sort))) (symbol_found symbols s d are there)
-      ∙ sym (map_twice (waiting_of sorts parts p) (a.Visit s) (range_with_len 1 (visits_of parts (symbol_at sorts p s).sort)))
+      ∙ sym (map-map (waiting_of sorts parts p) (a.Visit s) (range_with_len 1 (visits_of parts (symbol_at sorts p s).sort)))
 
   abbrev total : ℕ
   total = length (occurrences_of sorts p)
@@ -82,7 +75,7 @@ module _ (sorts : List Sort) (parts : List Partition) (p : Production) where
       let visits = flat_map (visits_at sorts parts p) (range_with_len 0 (length (symbols_of sorts p))) in
       grown
       ∙ ap (λ (ws : List Waiting). ws ++ flat_map (λ s. map (waiting_of sorts parts p) (visits_at sorts parts p s)) (range_with_len 0 (length (symbols_of sorts p))))
-      (are ∙ sym (map_twice (waiting_of sorts parts p) a.Eval (filter (is_defined (occurrences_of sorts p)) (range_with_len 0 total))))
+      (are ∙ sym (map-map (waiting_of sorts parts p) a.Eval (filter (is_defined (occurrences_of sorts p)) (range_with_len 0 total))))
       ∙ ap (λ (ws : List Waiting). map (waiting_of sorts parts p) evals ++ ws)
       (sym (map_flat (waiting_of sorts parts p) (visits_at sorts parts p) (range_with_len 0 (length (symbols_of sorts p)))))
       ∙ sym (map-append (waiting_of sorts parts p) evals visits)

@@ -18,7 +18,7 @@ use Rattle.lrc_order.specs.Ordered.{Partitions, ArePartitions, IsPartition, IsGi
 use Rattle.lrc_order.proofs.TransitiveLemmas.{has_place}
 use Rattle.lrc_order.proofs.TurnLemmas.{placed_within}
 use Rattle.lrc_sequence.specs.Items.{comes_before, ordered_at, extended_of}
-use Rattle.lrc_sequence.proofs.MemberLemmas.{in_map, in_flat, in_filter, in_row, from_flat, from_map, from_filter}
+use Rattle.lrc_order.proofs.MemberLemmas.{member_map, member_flat, member_filter, member_range, member_of_flat, member_of_map, member_of_filter}
 
 module _ (g : Grammar) (found : Partitions) (are : ArePartitions g found) (there : All (IsGivenThere g.sorts) found.given) where
   -- the partition of a sort that is there
@@ -49,10 +49,10 @@ module _ (g : Grammar) (found : Partitions) (are : ArePartitions g found) (there
       let within = before_within place.sort x y before in
       let x_in = within.0 in
       let y_in = within.1 in
-      in_flat (λ k. map (λ m. need (place.start + k) (place.start + m)) (filter (comes_before found.sorts place.sort k) (range_with_len 0 n))) (range_with_len 0 n) x
-      (need (place.start + x) (place.start + y)) (in_row 0 n x (omega arith) (omega arith))
-      (in_map (λ m. need (place.start + x) (place.start + m)) (filter (comes_before found.sorts place.sort x) (range_with_len 0 n)) y
-      (in_filter (comes_before found.sorts place.sort x) (range_with_len 0 n) y (in_row 0 n y (omega arith) (omega arith)) ((before_iff place.sort less x y).1 before)))
+      member_flat (λ k. map (λ m. need (place.start + k) (place.start + m)) (filter (comes_before found.sorts place.sort k) (range_with_len 0 n))) (range_with_len 0 n) x
+      (need (place.start + x) (place.start + y)) (member_range 0 n x (omega arith) (omega arith))
+      (member_map (λ m. need (place.start + x) (place.start + m)) (filter (comes_before found.sorts place.sort x) (range_with_len 0 n)) y
+      (member_filter (comes_before found.sorts place.sort x) (range_with_len 0 n) y (member_range 0 n y (omega arith) (omega arith)) ((before_iff place.sort less x y).1 before)))
 
   module _ (p : Production) (known : All (λ (place : Place). place.sort < length g.sorts) (places_of g.sorts p)) where
     pub read_extended : (x y : ℕ) → Contains (extended_of g.sorts found.sorts p) (need x y) → Extended g found.given p x y
@@ -60,19 +60,19 @@ module _ (g : Grammar) (found : Partitions) (are : ArePartitions g found) (there
         elim (Contains-append_cases (needs_of g.sorts p) (flat_map (ordered_at g.sorts found.sorts) (places_of g.sorts p)) (need x y) c) [
           | inl n ↦ inl n
           | inr m ↦
-              let at = from_flat (ordered_at g.sorts found.sorts) (places_of g.sorts p) (need x y) m in
-              let place = at.source in
+              let at = member_of_flat (ordered_at g.sorts found.sorts) (places_of g.sorts p) (need x y) m in
+              let place = at.0 in
               let n = length (attrs_of_sort g.sorts place.sort) in
-              let row = from_flat (λ k. map (λ j. need (place.start + k) (place.start + j)) (filter (comes_before found.sorts place.sort k) (range_with_len 0 n))) (range_with_len 0 n) (need x y) at.member in
-              let pair = from_map (λ j. need (place.start + row.source) (place.start + j)) (filter (comes_before found.sorts place.sort row.source) (range_with_len 0 n)) (need x y) row.member in
-              let passes = from_filter (comes_before found.sorts place.sort row.source) (range_with_len 0 n) pair.0 pair.1 in
-              let less = All-contains (λ (q : Place). q.sort < length g.sorts) (places_of g.sorts p) place known at.is_there in
+              let row = member_of_flat (λ k. map (λ j. need (place.start + k) (place.start + j)) (filter (comes_before found.sorts place.sort k) (range_with_len 0 n))) (range_with_len 0 n) (need x y) at.2 in
+              let pair = member_of_map (λ j. need (place.start + row.0) (place.start + j)) (filter (comes_before found.sorts place.sort row.0) (range_with_len 0 n)) (need x y) row.2 in
+              let passes = member_of_filter (comes_before found.sorts place.sort row.0) (range_with_len 0 n) pair.0 pair.1 in
+              let less = All-contains (λ (q : Place). q.sort < length g.sorts) (places_of g.sorts p) place known at.1 in
               inr (record {
                 place = place;
-                is_place = at.is_there;
-                first = row.source;
+                is_place = at.1;
+                first = row.0;
                 then = pair.0;
-                before = (before_iff place.sort less row.source pair.0).0 passes.1;
+                before = (before_iff place.sort less row.0 pair.0).0 passes.1;
                 x_is = sym (ap (λ (q : Need). q.first) pair.2);
                 y_is = sym (ap (λ (q : Need). q.then) pair.2);
               })
@@ -83,5 +83,5 @@ module _ (g : Grammar) (found : Partitions) (are : ArePartitions g found) (there
     extended_read x y (inr h) =
         let less = All-contains (λ (q : Place). q.sort < length g.sorts) (places_of g.sorts p) h.place known h.is_place in
         Contains-append_right (needs_of g.sorts p) (flat_map (ordered_at g.sorts found.sorts) (places_of g.sorts p)) (need x y)
-        (in_flat (ordered_at g.sorts found.sorts) (places_of g.sorts p) h.place (need x y) h.is_place
+        (member_flat (ordered_at g.sorts found.sorts) (places_of g.sorts p) h.place (need x y) h.is_place
         (rw (h.x_is, h.y_is) (ordered_pairs h.place less h.first h.then h.before)))

@@ -1,8 +1,8 @@
 -- Whether an item is among some.
-use Rattle.std.proofs.Common.{◌≡◌, ℕ, zero, suc, ◌<◌, Bool, true, false, IsTrue, ◌||◌, ◌&&◌, List, [], ◌∷◌, length, get_or, Contains, ◌⊎◌, inl, inr, refl, sym, ap, ◌∙◌, arith}
+use Rattle.std.proofs.Common.{◌≡◌, ℕ, zero, suc, ◌<◌, Bool, true, false, IsTrue, ◌&&◌, List, [], ◌∷◌, length, get_or, Contains, inl, inr, refl, sym, ap, ◌∙◌, arith}
 use Rattle.std.specs.Prelude.{nat_eq}
 use Rattle.std.specs.List.{list_any}
-use Rattle.std.proofs.lemmas.Bool.{and_parts, eqb-true, eq-eqb, true≢false}
+use Rattle.std.proofs.lemmas.Bool.{and_parts, and_from, or_cases, or_left, or_right, eqb-true, eq-eqb, true≢false}
 use Rattle.lrc_sequence.specs.declared.Bound.{Bound}
 use Rattle.lrc_sequence.specs.declared.Bound.TheVariants as b
 use Rattle.lrc_sequence.specs.Items.{same_item, is_among}
@@ -25,25 +25,10 @@ same_items (b.Kid s i j) (b.Kid t k l) h =
     let z : j ≡ l = eqb-true j l two.1 in
     cc
 
-and_true : (p q : Bool) → p ≡ true → q ≡ true → (p && q) ≡ true
-and_true p q e f = rw (e, f) refl
-
 pub item_itself : (x : Bound) → same_item x x ≡ true
 item_itself (b.Value x) = eq-eqb x x refl
 item_itself (b.Kid s i j) =
-    and_true (nat_eq s s) (nat_eq i i && nat_eq j j) (eq-eqb s s refl) (and_true (nat_eq i i) (nat_eq j j) (eq-eqb i i refl) (eq-eqb j j refl))
-
-or_cases : (p q : Bool) → (p || q) ≡ true → (p ≡ true) ⊎ (q ≡ true)
-or_cases true q h = inl refl
-or_cases false q h = inr h
-
-or_right : (p q : Bool) → q ≡ true → (p || q) ≡ true
-or_right true q h = refl
-or_right false q h = h
-
-or_left : (p q : Bool) → p ≡ true → (p || q) ≡ true
-or_left true q h = refl
-or_left false q h = absurd (true≢false (sym h))
+    and_from (nat_eq s s) (nat_eq i i && nat_eq j j) (eq-eqb s s refl) (and_from (nat_eq i i) (nat_eq j j) (eq-eqb i i refl) (eq-eqb j j refl))
 
 pub contained : (items : List Bound) (x : Bound) → is_among items x ≡ true → Contains items x
 contained [] x h = absurd (true≢false (sym h))

@@ -5,7 +5,7 @@ use Rattle.std.specs.Option.{option_map}
 use Rattle.std.specs.List.{list_all, range_with_len}
 use Rattle.std.proofs.lemmas.Bool.{and_parts, cases_eq}
 use Rattle.std.proofs.lemmas.List.Concat.{flat_map-append}
-use Rattle.std.proofs.lemmas.List.{get_or_append_left, map-append}
+use Rattle.std.proofs.lemmas.List.{get_or_append_left, map-append, get_or_default}
 use Rattle.std.proofs.lemmas.List.Elements.{filter-append, All-contains, filter_passes, Contains-append_left, Contains-append_right, Contains-append_cases}
 use Rattle.std.proofs.Math.Seq.{get_or-append_seam}
 use Rattle.lrc_base.specs.declared.grammar.Sort.{Sort}
@@ -23,7 +23,7 @@ use Rattle.lrc_sequence.specs.Bindings.{items_of, gained, used, binding}
 use Rattle.lrc_sequence.specs.Sound.{handed_in, AreReady}
 use Rattle.lrc_sequence.proofs.ItemLemmas.{among, contained}
 use Rattle.lrc_sequence.proofs.GreedyLemmas.{greedy_keeps, pick_over, segments_are_of, segments_count}
-use Rattle.lrc_sequence.proofs.MemberLemmas.{same_item, in_flat, from_flat, in_filter, in_row}
+use Rattle.lrc_order.proofs.MemberLemmas.{member_flat, member_of_flat, member_filter, member_range}
 
 all_contained : (available xs : List Bound) → list_all (is_among available) xs ≡ true → All (Contains available) xs
 all_contained available [] h k d less = absurd (omega arith)
@@ -82,7 +82,7 @@ module _ (sorts : List Sort) (parts : List Partition) (p : Production) where
   ready_with A B (x ∷ xs) ready enough = (
     λ k d less.
         let y = get_or (needs sorts parts p x) k d in
-        enough y (ready.0 k d less) (Contains-append_left (needs sorts parts p x) (flat_map (needs sorts parts p) xs) y (k, less, same_item (needs sorts parts p x) k y d less)),
+        enough y (ready.0 k d less) (Contains-append_left (needs sorts parts p x) (flat_map (needs sorts parts p) xs) y (k, less, get_or_default (needs sorts parts p x) k y d less)),
     ready_with (A ++ makes sorts parts p x) (B ++ makes sorts parts p x) xs ready.1
         (λ y m used.
         elim (Contains-append_cases A (makes sorts parts p x) y m) [
@@ -168,9 +168,9 @@ module _ (sorts : List Sort) (parts : List Partition) (p : Production) where
     used_listed w one le y m =
         let size : length (segments_of sorts parts p) ≡ count = segments_count sorts parts p count 1 (record { done = []; left = actions_of sorts parts p; available = [] }) in
         let each = segments_are_of sorts parts p (λ x. All (Contains (items_of sorts parts p)) (needs sorts parts p x)) listed (w - 1) [] (omega arith) in
-        let from = from_flat (needs sorts parts p) (segment sorts parts p w) y m in
-        All-contains (Contains (items_of sorts parts p)) (needs sorts parts p from.source) y
-        (All-contains (λ x. All (Contains (items_of sorts parts p)) (needs sorts parts p x)) (segment sorts parts p w) from.source each from.is_there) from.member
+        let from = member_of_flat (needs sorts parts p) (segment sorts parts p w) y m in
+        All-contains (Contains (items_of sorts parts p)) (needs sorts parts p from.0) y
+        (All-contains (λ x. All (Contains (items_of sorts parts p)) (needs sorts parts p x)) (segment sorts parts p w) from.0 each from.1) from.2
 
     pub ready : (v : ℕ) → 1 ≤ v → v ≤ count → AreReady sorts parts p (handed_in sorts parts p v) (segment sorts parts p v)
     ready v one le =
@@ -189,8 +189,8 @@ module _ (sorts : List Sort) (parts : List Partition) (p : Production) where
               let in_to : is_among to y ≡ true =
               among to y (Contains-append_left (flat_map (needs sorts parts p) (segment sorts parts p v)) (values_of_visit sorts parts false p.left 0 v) y needed) in
               Contains-append_right (entering v) (flat_map (λ u. binding sorts parts p u v) (range_with_len 1 (v - 1))) y
-              (in_flat (λ u. binding sorts parts p u v) (range_with_len 1 (v - 1)) w.visit y (in_row 1 (v - 1) w.visit first (omega arith))
-              (in_filter (λ x. is_among from x && is_among to x) (items_of sorts parts p) y (used_listed v one le y needed) (rw (in_from, in_to) refl)))
+              (member_flat (λ u. binding sorts parts p u v) (range_with_len 1 (v - 1)) w.visit y (member_range 1 (v - 1) w.visit first (omega arith))
+              (member_filter (λ x. is_among from x && is_among to x) (items_of sorts parts p) y (used_listed v one le y needed) (rw (in_from, in_to) refl)))
         ])
 
   -- what is handed on became available in the visit

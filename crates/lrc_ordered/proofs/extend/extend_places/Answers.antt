@@ -3,11 +3,10 @@ use Rattle.std.specs.Prelude.{None}
 use Rattle.lrc_graph.specs.Pairs.{Pairs}
 use Rattle.lrc_order.specs.declared.Place.{Place}
 use Rattle.lrc_ordered.specs.Tables.{Closed, HandedAt, HandedAmong, table_at, nothing}
-use Rattle.std.proofs.lemmas.List.{length-map}
+use Rattle.std.proofs.lemmas.List.{length-map, get_or_default}
 use Rattle.lrc_order.specs.declared.Partition.{Partition}
 use Rattle.lrc_ordered.specs.Setup.{orders_of}
 use Rattle.lrc_ordered.proofs.SetupLemmas.{map_at}
-use Rattle.lrc_ordered.proofs.GatherLemmas.{same_item}
 use Rattle.lrc_ordered.proofs.SpreadLemmas.{handed_among_more, none_among, closed_then, closed_none}
 use Rattle.lrc_ordered.proofs.extend.extend_places.Goals as goal
 
@@ -29,4 +28,4 @@ places-preserved c =
     closed_then c.args.relation.now c.places.relation c.spread_place.new.relation (HandedAmong sorts (take i c.args.places.now))
     (HandedAt (table_at sorts place.sort) place.start) (HandedAmong sorts (take (i + 1) c.args.places.now)) c.places.invariant
     (subst (λ (t : Pairs). Closed c.places.relation c.spread_place.new.relation (HandedAt t place.start)) found c.spread_place.ensures)
-    (handed_among_more sorts c.args.places.now i place c.places-test.true (same_item c.args.places.now i none place c.places-test.true))
+    (handed_among_more sorts c.args.places.now i place c.places-test.true (get_or_default c.args.places.now i none place c.places-test.true))

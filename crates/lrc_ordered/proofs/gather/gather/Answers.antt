@@ -3,7 +3,8 @@ use Rattle.std.proofs.lemmas.List.Elements.{All-weaker, All-same}
 use Rattle.lrc_graph.specs.Pairs.{Pairs}
 use Rattle.lrc_order.specs.declared.Place.{Place}
 use Rattle.lrc_ordered.specs.Tables.{nothing, table_at, GatheredAll, JoinedAmong, JoinedIn, FitsIn}
-use Rattle.lrc_ordered.proofs.GatherLemmas.{same_item, same_joined, same_fits, gathered_then, JoinedBelow, joined_below_more, gathered_change}
+use Rattle.std.proofs.lemmas.List.{get_or_default}
+use Rattle.lrc_ordered.proofs.GatherLemmas.{same_joined, same_fits, gathered_then, JoinedBelow, joined_below_more, gathered_change}
 use Rattle.lrc_ordered.proofs.gather.gather.Goals as goal
 
 pub gather_places-found-requires-clause-within : goal.gather_places-found-requires-clause-within
@@ -16,9 +17,9 @@ gather_places-found-requires-clause-within c =
     let number = c.requires.productions in
     let within = c.productions-test.true in
     let found : c.index-relations-production.result ≡ relation =
-    c.index-relations-production.is ∙ same_item c.args.relations.now n c.index-relations-production.result nothing c.productions-test.true in
+    c.index-relations-production.is ∙ get_or_default c.args.relations.now n c.index-relations-production.result nothing c.productions-test.true in
     let list : c.as_slice.result.now ≡ places =
-    c.as_slice.ensures ∙ c.index-places-production.is ∙ same_item c.args.places.now n c.index-places-production.result [] (omega arith) in
+    c.as_slice.ensures ∙ c.index-places-production.is ∙ get_or_default c.args.places.now n c.index-places-production.result [] (omega arith) in
     subst (λ (r : Pairs). All (FitsIn now r.points) c.as_slice.result.now) (sym found)
     (All-same (FitsIn now relation.points) c.as_slice.result.now places list
     (All-weaker (FitsIn old relation.points) (FitsIn now relation.points)
@@ -35,9 +36,9 @@ productions-preserved c =
     let number = c.requires.productions in
     let within = c.productions-test.true in
     let found : c.index-relations-production.result ≡ relation =
-    c.index-relations-production.is ∙ same_item relations n c.index-relations-production.result nothing c.productions-test.true in
+    c.index-relations-production.is ∙ get_or_default relations n c.index-relations-production.result nothing c.productions-test.true in
     let list : c.as_slice.result.now ≡ places =
-    c.as_slice.ensures ∙ c.index-places-production.is ∙ same_item c.args.places.now n c.index-places-production.result [] (omega arith) in
+    c.as_slice.ensures ∙ c.index-places-production.is ∙ get_or_default c.args.places.now n c.index-places-production.result [] (omega arith) in
     gathered_then old now c.gather_places-found.new.sorts c.productions.found c.gather_places-found.result
     (JoinedBelow old relations c.args.places.now n) (JoinedAmong now relation places) (JoinedBelow old relations c.args.places.now (n + 1)) c.productions.invariant
     (subst (λ (r : Pairs). GatheredAll now c.gather_places-found.new.sorts c.gather_places-found.result (JoinedAmong now r places)) found

@@ -3,7 +3,8 @@ use Rattle.std.specs.Prelude.{None}
 use Rattle.lrc_graph.specs.Pairs.{Pairs}
 use Rattle.lrc_order.specs.declared.Place.{Place}
 use Rattle.lrc_ordered.specs.Tables.{nothing, table_at, Gathered, JoinedAt, JoinedAmong}
-use Rattle.lrc_ordered.proofs.GatherLemmas.{same_item, gathered_set, joined_more}
+use Rattle.std.proofs.lemmas.List.{get_or_default}
+use Rattle.lrc_ordered.proofs.GatherLemmas.{gathered_set, joined_more}
 use Rattle.lrc_ordered.proofs.gather.gather_places.Goals as goal
 
 abbrev none : Place
@@ -19,10 +20,10 @@ places-preserved c =
     let len = c.places.auto.sorts in
     let small = (c.requires.within i none c.places-test.true).0 in
     let there : place.sort < length now = omega arith in
-    let default = same_item now place.sort c.index-sorts-place.result nothing there in
+    let default = get_or_default now place.sort c.index-sorts-place.result nothing there in
     let points = c.places.invariant.points place.sort in
     gathered_set old now c.places.found c.gather_place-found.result (JoinedAmong old relation (take i c.args.places.now)) (JoinedAmong old relation (take (i + 1) c.args.places.now))
     place.sort c.gather_place-found.new.sort (JoinedAt (table_at old place.sort).points relation place.start) c.places.invariant there
     (subst (λ n. Gathered (table_at now place.sort) c.gather_place-found.new.sort c.gather_place-found.result (JoinedAt n relation place.start)) points
     (subst (λ (t : Pairs). Gathered t c.gather_place-found.new.sort c.gather_place-found.result (JoinedAt t.points relation place.start)) default c.gather_place-found.ensures))
-    (joined_more old relation c.args.places.now i place c.places-test.true (same_item c.args.places.now i none place c.places-test.true))
+    (joined_more old relation c.args.places.now i place c.places-test.true (get_or_default c.args.places.now i none place c.places-test.true))

@@ -9,7 +9,7 @@ use Rattle.lrc_base.specs.declared.grammar.Given.{Given}
 use Rattle.lrc_order.specs.Induced.{Induced}
 use Rattle.lrc_order.specs.Ordered.{IsPartition, IsAcyclic}
 use Rattle.lrc_ordered.specs.Tables.{table_at, nothing}
-use Rattle.lrc_ordered.proofs.GatherLemmas.{same_item}
+use Rattle.std.proofs.lemmas.List.{get_or_default}
 use Rattle.lrc_ordered.proofs.OrderLemmas.{table_transitive, table_acyclic, pushed, few_attrs, attrs_at}
 use Rattle.lrc_ordered.proofs.partitions.partition_sorts.Goals as goal
 
@@ -34,7 +34,7 @@ partition-requires-clause-attributes c =
     c.as_slice-attrs.ensures ∙ ap (λ (list : List Sort). (get_or list n c.index-declared-sort.result).attrs) c.as_slice-declared.ensures
     ∙ sym (attrs_at g.sorts n c.index-declared-sort.result small) in
     let many = c.requires.tables.tables in
-    let found : c.index.result.now ≡ table_at tables n = c.index.ensures ∙ same_item tables n c.index.result.now nothing (omega arith) in
+    let found : c.index.result.now ≡ table_at tables n = c.index.ensures ∙ get_or_default tables n c.index.result.now nothing (omega arith) in
     ap (λ (r : Pairs). r.points) found ∙ c.requires.tables.sort_points n ∙ sym (ap length attrs)
 
 pub partition-requires-clause-transitive : goal.partition-requires-clause-transitive
@@ -47,7 +47,7 @@ partition-requires-clause-transitive c =
     c.as_slice-attrs.ensures ∙ ap (λ (list : List Sort). (get_or list n c.index-declared-sort.result).attrs) c.as_slice-declared.ensures
     ∙ sym (attrs_at g.sorts n c.index-declared-sort.result small) in
     let many = c.requires.tables.tables in
-    let found : c.index.result.now ≡ table_at tables n = c.index.ensures ∙ same_item tables n c.index.result.now nothing (omega arith) in
+    let found : c.index.result.now ≡ table_at tables n = c.index.ensures ∙ get_or_default tables n c.index.result.now nothing (omega arith) in
     subst (λ (r : Pairs). IsTransitive (Has r)) (sym found)
     (table_transitive (grammar_of g) c.args.given.now c.requires.there n (table_at tables n) (c.requires.tables.induced n))
 
@@ -61,7 +61,7 @@ partition-requires-clause-acyclic c =
     c.as_slice-attrs.ensures ∙ ap (λ (list : List Sort). (get_or list n c.index-declared-sort.result).attrs) c.as_slice-declared.ensures
     ∙ sym (attrs_at g.sorts n c.index-declared-sort.result small) in
     let many = c.requires.tables.tables in
-    let found : c.index.result.now ≡ table_at tables n = c.index.ensures ∙ same_item tables n c.index.result.now nothing (omega arith) in
+    let found : c.index.result.now ≡ table_at tables n = c.index.ensures ∙ get_or_default tables n c.index.result.now nothing (omega arith) in
     subst (λ (r : Pairs). IsAcyclic (Has r)) (sym found)
     (table_acyclic (grammar_of g) c.args.given.now c.requires.there n (table_at tables n) (c.requires.tables.induced n) c.requires.acyclic)
 
@@ -75,7 +75,7 @@ loop-sort-preserved c =
     c.as_slice-attrs.ensures ∙ ap (λ (list : List Sort). (get_or list n c.index-declared-sort.result).attrs) c.as_slice-declared.ensures
     ∙ sym (attrs_at g.sorts n c.index-declared-sort.result small) in
     let many = c.requires.tables.tables in
-    let found : c.index.result.now ≡ table_at tables n = c.index.ensures ∙ same_item tables n c.index.result.now nothing (omega arith) in
+    let found : c.index.result.now ≡ table_at tables n = c.index.ensures ∙ get_or_default tables n c.index.result.now nothing (omega arith) in
     let is : IsPartition (grammar_of g) c.args.given.now n c.in_ok-partition.field-0 =
     c.in_ok-partition.ensures (grammar_of g) c.args.given.now n
     (record {

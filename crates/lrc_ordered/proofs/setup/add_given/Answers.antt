@@ -2,7 +2,7 @@ use Rattle.std.proofs.Common.{ℕ, ◌≡◌, ◌<◌, get_or, length, length-se
 use Rattle.lrc_base.specs.declared.grammar.Given.{Given}
 use Rattle.lrc_graph.specs.Pairs.{Pairs, Has, HasExactly, With}
 use Rattle.lrc_ordered.specs.Tables.{nothing, table_at, HasAt}
-use Rattle.lrc_ordered.proofs.GatherLemmas.{same_item}
+use Rattle.std.proofs.lemmas.List.{get_or_default}
 use Rattle.lrc_ordered.proofs.SetupLemmas.{IsPut, given_left, given_added, set_points}
 use Rattle.lrc_ordered.proofs.setup.add_given.Goals as goal
 use Rattle.lrc_ordered.proofs.setup.add_given.Goals.{then-is_in, else-is_in}
@@ -17,13 +17,13 @@ given-preserved c =
     let old = c.args.tables.now in
     let now = c.given.tables in
     let held = c.given.invariant in
-    let is = same_item c.args.given.now i none g c.given-test.true in
+    let is = get_or_default c.args.given.now i none g c.given-test.true in
     let number = held.number in
     let there = (c.requires i none c.given-test.true).0 in
     let small : g.sort < length now = omega arith in
     elim c.if-is_in.branch [
       | then-is_in w ↦
-          let found : get_or now g.sort w.index-tables-pair.result ≡ table_at now g.sort = same_item now g.sort w.index-tables-pair.result nothing small in
+          let found : get_or now g.sort w.index-tables-pair.result ≡ table_at now g.sort = get_or_default now g.sort w.index-tables-pair.result nothing small in
           rw w.tables-is
           (record {
             number = length-set now g.sort w.add.new.self ∙ held.number;

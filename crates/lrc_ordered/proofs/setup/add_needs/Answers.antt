@@ -1,6 +1,6 @@
 use Rattle.std.proofs.Common.{get_or, ◌∙◌}
 use Rattle.lrc_order.specs.declared.Need.{Need}
-use Rattle.lrc_ordered.proofs.GatherLemmas.{same_item}
+use Rattle.std.proofs.lemmas.List.{get_or_default}
 use Rattle.lrc_ordered.proofs.SetupLemmas.{needs_more, needs_all}
 use Rattle.lrc_ordered.proofs.setup.add_needs.Goals as goal
 
@@ -11,7 +11,7 @@ loop-need-preserved c =
     record {
       points = c.add.ensures.points ∙ c.loop-need.invariant.points;
       pairs = needs_more c.args.relation.now c.loop-need.relation c.add.new.self c.args.needs.now i n c.loop-need-test.true
-          (same_item c.args.needs.now i (record { first = 0; then = 0 }) n c.loop-need-test.true) c.loop-need.invariant.pairs c.add.ensures.pairs;
+          (get_or_default c.args.needs.now i (record { first = 0; then = 0 }) n c.loop-need-test.true) c.loop-need.invariant.pairs c.add.ensures.pairs;
     }
 
 pub returns-clause-pairs : goal.returns-clause-pairs

@@ -3,7 +3,7 @@ use Rattle.std.specs.Prelude.{List}
 use Rattle.lrc_base.specs.declared.grammar.Given.{Given}
 use Rattle.lrc_base.specs.declared.grammar.Sort.{Sort}
 use Rattle.lrc_order.specs.Ordered.{IsGivenThere}
-use Rattle.lrc_ordered.proofs.GatherLemmas.{same_item}
+use Rattle.std.proofs.lemmas.List.{get_or_default}
 use Rattle.lrc_ordered.proofs.AllLemmas.{all_next, all_done}
 use Rattle.lrc_ordered.proofs.small.are_given_there.Goals as goal
 
@@ -14,7 +14,7 @@ pub loop-pair-preserved : goal.loop-pair-preserved
 loop-pair-preserved c =
     let n = c.loop-pair.pair-index in
     let pair : Given = get_or c.args.given.now n none in
-    all_next (IsGivenThere c.args.grammar.now.sorts) c.args.given.now n pair c.loop-pair-test.true (same_item c.args.given.now n none pair c.loop-pair-test.true)
+    all_next (IsGivenThere c.args.grammar.now.sorts) c.args.given.now n pair c.loop-pair-test.true (get_or_default c.args.given.now n none pair c.loop-pair-test.true)
     (subst (λ (list : List Sort). IsGivenThere list pair) c.as_slice.ensures (c.is_given_there.ensures.0 c.if-not-is_given_there.false)) c.loop-pair.invariant
 
 pub returns : goal.returns

@@ -3,7 +3,7 @@ use Rattle.std.proofs.lemmas.List.Elements.{All-same}
 use Rattle.lrc_graph.specs.Pairs.{Pairs}
 use Rattle.lrc_order.specs.declared.Place.{Place}
 use Rattle.lrc_ordered.specs.Tables.{nothing, table_at, FitsIn}
-use Rattle.lrc_ordered.proofs.GatherLemmas.{same_item}
+use Rattle.std.proofs.lemmas.List.{get_or_default}
 use Rattle.lrc_ordered.proofs.spread.spread.Goals as goal
 
 pub spread_places-requires-clause-within : goal.spread_places-requires-clause-within
@@ -17,8 +17,8 @@ spread_places-requires-clause-within c =
     let test = c.productions-test.true in
     let there : n < length relations = omega arith in
     let found : get_or c.productions.relations n c.index-relations-production.result ≡ table_at relations n =
-    same_item c.productions.relations n c.index-relations-production.result nothing (omega arith) ∙ c.productions.invariant.left n (le_refl n) in
+    get_or_default c.productions.relations n c.index-relations-production.result nothing (omega arith) ∙ c.productions.invariant.left n (le_refl n) in
     let list : c.as_slice.result.now ≡ places =
-    c.as_slice.ensures ∙ c.index-places-production.is ∙ same_item c.args.places.now n c.index-places-production.result [] (omega arith) in
+    c.as_slice.ensures ∙ c.index-places-production.is ∙ get_or_default c.args.places.now n c.index-places-production.result [] (omega arith) in
     subst (λ (r : Pairs). All (FitsIn sorts r.points) c.as_slice.result.now) (sym found)
     (All-same (FitsIn sorts (table_at relations n).points) c.as_slice.result.now places list (c.requires.within n there))

@@ -3,7 +3,7 @@ use Rattle.std.specs.Prelude.{None}
 use Rattle.lrc_graph.specs.Pairs.{Pairs}
 use Rattle.lrc_order.specs.declared.Place.{Place}
 use Rattle.lrc_ordered.specs.Tables.{Closed, HandedAt, HandedAmong, table_at, nothing}
-use Rattle.lrc_ordered.proofs.GatherLemmas.{same_item}
+use Rattle.std.proofs.lemmas.List.{get_or_default}
 use Rattle.lrc_ordered.proofs.SpreadLemmas.{handed_among_more, none_among, closed_then, closed_none}
 use Rattle.lrc_ordered.proofs.spread.spread_places.Goals as goal
 
@@ -20,8 +20,8 @@ places-preserved c =
     let place : Place = get_or c.args.places.now i none in
     let small = (c.requires.within i none c.places-test.true).0 in
     let found : c.index-sorts-place.result ≡ table_at sorts place.sort =
-    c.index-sorts-place.is ∙ same_item sorts place.sort c.index-sorts-place.result nothing small in
+    c.index-sorts-place.is ∙ get_or_default sorts place.sort c.index-sorts-place.result nothing small in
     closed_then c.args.relation.now c.places.relation c.spread_place.new.relation (HandedAmong sorts (take i c.args.places.now))
     (HandedAt (table_at sorts place.sort) place.start) (HandedAmong sorts (take (i + 1) c.args.places.now)) c.places.invariant
     (subst (λ (t : Pairs). Closed c.places.relation c.spread_place.new.relation (HandedAt t place.start)) found c.spread_place.ensures)
-    (handed_among_more sorts c.args.places.now i place c.places-test.true (same_item c.args.places.now i none place c.places-test.true))
+    (handed_among_more sorts c.args.places.now i place c.places-test.true (get_or_default c.args.places.now i none place c.places-test.true))

@@ -2,7 +2,7 @@ use Rattle.std.proofs.Common.{◌≡◌, ◌+◌, ◌-◌, ◌++◌, ◌∷◌, 
 use Rattle.std.specs.Prelude.{slice_index_or}
 use Rattle.std.specs.List.{range_with_len}
 use Rattle.lrc_sequence.specs.declared.Bound.{Bound}
-use Rattle.lrc_ordered.proofs.GatherLemmas.{same_item}
+use Rattle.std.proofs.lemmas.List.{get_or_default}
 use Rattle.lrc_plan.specs.ItemSets.{Flags}
 use Rattle.lrc_plan.specs.Handing.{shared, no_items}
 use Rattle.lrc_plan.proofs.VisitLemmas.{row_more}
@@ -17,7 +17,7 @@ visits-preserved c =
     let d = c.index-used-visit.result in
     let one : c.push.new.self ≡ c.visits.lists ++ shared items gained (slice_index_or used c.visits.visit no_items) ∷ [] =
     c.in_ok-push.ensures.ok ∙ ap (λ (x : List Bound). c.visits.lists ++ x ∷ [])
-    (c.in_ok-shared.ensures ∙ ap (λ (set : Flags). shared items gained set) (c.index-used-visit.is ∙ same_item used c.visits.visit d no_items c.visits-test.true)) in
+    (c.in_ok-shared.ensures ∙ ap (λ (set : Flags). shared items gained set) (c.index-used-visit.is ∙ get_or_default used c.visits.visit d no_items c.visits-test.true)) in
     record {
       lists = row_more (λ w. shared items gained (slice_index_or used w no_items)) [] c.visits.lists c.push.new.self c.args.first (c.visits.visit - c.args.first) c.visits.visit
           (c.visits.visit + 1 - c.args.first) c.visits.invariant.lists one (omega arith) (omega arith);

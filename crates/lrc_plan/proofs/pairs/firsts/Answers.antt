@@ -2,7 +2,7 @@ use Rattle.std.proofs.Common.{◌≡◌, ◌<◌, [], arith, ◌∙◌, ap, ◌+
 use Rattle.lrc_order.specs.declared.Need.{Need}
 use Rattle.lrc_sequence.specs.declared.Bound.{Bound}
 use Rattle.lrc_sequence.specs.declared.Bound.TheVariants as item
-use Rattle.lrc_ordered.proofs.GatherLemmas.{same_item}
+use Rattle.std.proofs.lemmas.List.{get_or_default}
 use Rattle.lrc_plan.proofs.PairLemmas.{lists_more, lists_count}
 use Rattle.lrc_plan.proofs.pairs.firsts.Goals as goal
 
@@ -23,7 +23,7 @@ pairs-preserved c =
     let small : n.then < c.args.count = c.requires i (record { first = 0; then = 0 }) c.pairs-test.true in
     let count : length c.pairs.lists.items ≡ c.args.count = lists_count _ c.args.count c.pairs.lists.items c.pairs.invariant in
     let there : n.then < length c.pairs.lists.items = omega arith in
-    lists_more pairs i c.args.count n c.pairs.lists.items c.push.new.self c.pairs-test.true (same_item pairs i n (record { first = 0; then = 0 }) c.pairs-test.true) small
+    lists_more pairs i c.args.count n c.pairs.lists.items c.push.new.self c.pairs-test.true (get_or_default pairs i n (record { first = 0; then = 0 }) c.pairs-test.true) small
     c.pairs.invariant
     (c.in_ok-push.ensures.ok
-    ∙ ap (λ (xs : List Bound). xs ++ item.Value n.first ∷ []) (c.index_mut.ensures.value ∙ same_item c.pairs.lists.items n.then _ [] there))
+    ∙ ap (λ (xs : List Bound). xs ++ item.Value n.first ∷ []) (c.index_mut.ensures.value ∙ get_or_default c.pairs.lists.items n.then _ [] there))

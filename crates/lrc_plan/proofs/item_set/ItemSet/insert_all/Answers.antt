@@ -1,8 +1,7 @@
 use Rattle.std.proofs.Common.{◌↔◌, ◌⊎◌, IsTrue, Contains, get_or, subst, List, arith}
-use Rattle.std.proofs.lemmas.List.{take_all}
+use Rattle.std.proofs.lemmas.List.{take_all, get_or_default}
 use Rattle.lrc_sequence.specs.declared.Bound as sequence
 use Rattle.lrc_sequence.specs.declared.Bound.TheVariants as b
-use Rattle.lrc_ordered.proofs.GatherLemmas.{same_item}
 use Rattle.lrc_plan.specs.ItemSets.{holds}
 use Rattle.lrc_plan.proofs.SetLemmas.{items_more}
 use Rattle.lrc_plan.proofs.item_set.ItemSet.insert_all.Goals as goal
@@ -14,7 +13,7 @@ items-preserved c =
     let item = get_or items i (b.Value 0) in
     record {
       items = items_more c.args.self.now c.items.self c.insert.new.self items i item c.items-test.true
-          (same_item items i (b.Value 0) item c.items-test.true) c.items.invariant.items c.insert.ensures.items;
+          (get_or_default items i (b.Value 0) item c.items-test.true) c.items.invariant.items c.insert.ensures.items;
       room = λ x h. c.insert.ensures.room x (c.items.invariant.room x h);
     }
 
