@@ -1,32 +1,16 @@
 -- Stores that grow, step by step.
-use Rattle.std.proofs.Common.{◌≡◌, ◌⊎◌, inl, inr, ℕ, ◌<◌, List, [], ◌∷◌, ◌++◌, length, get_or, refl, sym, ◌∙◌, ap, subst, suc, zero, arith, length-append, append_assoc, Option, Some, None, IsSome, Contains}
+use Rattle.std.proofs.Common.{◌≡◌, ◌⊎◌, inl, inr, ℕ, List, [], ◌++◌, refl, sym, ◌∙◌, ap, subst, suc, arith, append_assoc, Option, Some, None, Contains}
 use Rattle.std.proofs.lemmas.List.{append-nil}
+use Rattle.std.proofs.lemmas.List.Elements.{Contains-append_left, Contains-append_right, Contains-append_cases}
 use Rattle.std.proofs.lemmas.Bool.{false≢true}
-use Rattle.std.specs.Prelude.{unwrap_or, Result, Ok, Err, IsErr}
+use Rattle.std.specs.Prelude.{Result, Ok, Err, IsErr}
 use Rattle.lrc_store.specs.Cells.{CellTree, nil, pair, parts, IsWithin, HoldsParts}
-use Rattle.lrc_store.specs.Standing.{Standing, Stands, IsKnown, meant, Told}
-use Rattle.lrc_store.specs.Words.{Keeps, Grows, KeepsQuota, Reads, Tells}
+use Rattle.lrc_store.specs.Standing.{Standing, Stands, meant, Told}
+use Rattle.lrc_store.specs.Words.{Grows, KeepsQuota, Reads, Tells}
 use Rattle.lrc_store.specs.declared.cells.Handle.{Handle}
 use Rattle.lrc_store.specs.declared.stores.Full.{Full}
+use Rattle.lrc_store.proofs.Known.{stands-meant}
 use Rattle.lrc_code.specs.Building.{DrawsPart, AddsParts, Builds}
-
-some-stands : (o : Option CellTree) → IsSome o → o ≡ Some (unwrap_or o nil)
-some-stands None h = cc
-some-stands (Some c) h = refl
-
--- a known handle stands for its cell
-pub known-stands : (s : Standing) (handle : ℕ) → IsKnown s handle → Stands s handle (meant s handle)
-known-stands s handle h = some-stands (s.known handle) h
-
-pub stands-known : (s : Standing) (handle : ℕ) (c : CellTree) → Stands s handle c → IsKnown s handle
-stands-known s handle c h = let P : Option CellTree → Type 0 = IsSome in subst P (sym h) refl
-
-pub stands-meant : (s : Standing) (handle : ℕ) (c : CellTree) → Stands s handle c → meant s handle ≡ c
-stands-meant s handle c h = ap (λ (o : Option CellTree). unwrap_or o nil) h
-
--- a known handle stands for the same cell later
-pub kept-meant : (s t : Standing) (handle : ℕ) → Keeps s t → IsKnown s handle → meant t handle ≡ meant s handle
-kept-meant s t handle k h = stands-meant t handle (meant s handle) (k handle (meant s handle) (known-stands s handle h))
 
 pub grows-same : (a : Option (List CellTree)) → Grows a a
 grows-same None = tt
@@ -66,34 +50,15 @@ reads-then s t u a b = record {
   missed = b.missed ∙ a.missed;
 }
 
-contains-front : (xs ys : List CellTree) (c : CellTree) → Contains xs c → Contains (xs ++ ys) c
-contains-front xs ys c (i, h, e) = (i, omega (arith, h, length-append xs ys), front xs ys i c h ∙ e) where
-  front : (xs ys : List CellTree) (i : ℕ) (c : CellTree) → i < length xs → get_or (xs ++ ys) i c ≡ get_or xs i c
-  front [] ys i c h = absurd (omega arith)
-  front (x ∷ xs) ys zero c h = refl
-  front (x ∷ xs) ys (suc i) c h = front xs ys i c (omega arith)
-
-contains-behind : (xs ys : List CellTree) (c : CellTree) → Contains ys c → Contains (xs ++ ys) c
-contains-behind [] ys c h = h
-contains-behind (x ∷ xs) ys c h = let p = contains-behind xs ys c h in (suc p.0, omega (arith, p.1), p.2)
-
-contains-either : (xs ys : List CellTree) (c : CellTree) → Contains (xs ++ ys) c → Contains xs c ⊎ Contains ys c
-contains-either [] ys c h = inr h
-contains-either (x ∷ xs) ys c (zero, h, e) = inl (0, omega arith, e)
-contains-either (x ∷ xs) ys c (suc i, h, e) = over (contains-either xs ys c (i, omega (arith, h), e)) where
-  over : Contains xs c ⊎ Contains ys c → Contains (x ∷ xs) c ⊎ Contains ys c
-  over (inl (k, l, f)) = inl (suc k, omega (arith, l), f)
-  over (inr g) = inr g
-
 -- the parts of a pair's sides are parts of it
 pub left-within : (tag : ℕ) (left right : CellTree) → IsWithin (parts left) (parts (pair tag left right))
-left-within tag left right c h = let p = contains-front (parts left) (parts right) c h in (suc p.0, omega (arith, p.1), p.2)
+left-within tag left right c h = let p = Contains-append_left (parts left) (parts right) c h in (suc p.0, omega (arith, p.1), p.2)
 
 pub right-within : (tag : ℕ) (left right : CellTree) → IsWithin (parts right) (parts (pair tag left right))
-right-within tag left right c h = let p = contains-behind (parts left) (parts right) c h in (suc p.0, omega (arith, p.1), p.2)
+right-within tag left right c h = let p = Contains-append_right (parts left) (parts right) c h in (suc p.0, omega (arith, p.1), p.2)
 
 within-both : (xs ys zs : List CellTree) → IsWithin xs zs → IsWithin ys zs → IsWithin (xs ++ ys) zs
-within-both xs ys zs f g c h = over (contains-either xs ys c h) where
+within-both xs ys zs f g c h = over (Contains-append_cases xs ys c h) where
   over : Contains xs c ⊎ Contains ys c → Contains zs c
   over (inl k) = f c k
   over (inr k) = g c k

@@ -1,14 +1,9 @@
 -- Reading lists item by item.
-use Rattle.std.proofs.Common.{◌≡◌, ℕ, zero, suc, ◌+◌, ◌<◌, ◌≤◌, List, [], ◌∷◌, length, drop, get_or, refl, sym, ◌∙◌, ap, arith, Some, drop-cons}
-use Rattle.std.specs.Prelude.{slice_get}
+use Rattle.std.proofs.Common.{◌≡◌, ℕ, suc, ◌+◌, ◌<◌, ◌≤◌, List, length, drop, get_or, sym, ◌∙◌, ap, arith, Some, drop-cons}
+use Rattle.std.proofs.lemmas.Option.{slice_get-get_or}
 use Rattle.lrc_store.specs.Cells.{CellTree, nil, pair}
 use Rattle.lrc_code.specs.Forms.{list_cell}
 use Rattle.lrc_code.specs.Reading.{IsPair, HasItem}
-
-get-at : (xs : List CellTree) (i : ℕ) → i < length xs → slice_get xs i ≡ Some (get_or xs i nil)
-get-at [] i h = absurd (omega arith)
-get-at (x ∷ xs) zero h = refl
-get-at (x ∷ xs) (suc i) h = get-at xs i (omega arith)
 
 -- the cell is the rest of a list behind so many items, and the list has an item of this number
 abbrev pub IsBehind : CellTree → ℕ → ℕ → CellTree → Type 0
@@ -33,4 +28,4 @@ behind-more cell k i tag rest left right h is (items, e, l, f) =
 
 pub behind-item : (cell : CellTree) (i tag : ℕ) (rest left right : CellTree) → rest ≡ pair tag left right → IsBehind cell i i rest → HasItem cell i left
 behind-item cell i tag rest left right is (items, e, l, f) =
-    (items, e, get-at items i l ∙ ap (λ c. Some c) (sym (left-same tag 4 left right _ _ (sym is ∙ f ∙ first-behind items i l))))
+    (items, e, slice_get-get_or items i nil l ∙ ap (λ c. Some c) (sym (left-same tag 4 left right _ _ (sym is ∙ f ∙ first-behind items i l))))

@@ -1,7 +1,8 @@
 -- The words of a name, one by one.
-use Rattle.std.proofs.Common.{◌≡◌, ℕ, zero, suc, ◌+◌, ◌-◌, ◌*◌, ◌<◌, min, List, [], ◌∷◌, ◌++◌, length, take, drop, refl, sym, ◌∙◌, ap, subst, arith, Contains}
+use Rattle.std.proofs.Common.{◌≡◌, ℕ, zero, suc, ◌+◌, ◌-◌, ◌*◌, ◌<◌, ◌≤◌, min, List, [], ◌∷◌, ◌++◌, length, take, drop, refl, sym, ◌∙◌, ap, subst, arith, Contains}
 use Rattle.std.proofs.Math.ListN.{replicate}
-use Rattle.std.proofs.lemmas.List.{drop-drop}
+use Rattle.std.proofs.Math.Seq.{take-append-add}
+use Rattle.std.proofs.lemmas.List.{drop-drop, drop-replicate, take-replicate}
 use Rattle.std.specs.Int.{div_ceil, from_le_bytes, cast_signed, w64}
 use Rattle.lrc_store.specs.Cells.{CellTree, number, pair, parts, IsWithin}
 use Rattle.lrc_code.specs.Forms.{word, words_cell, name_cell}
@@ -18,6 +19,14 @@ same-front (suc n) (suc k) (x ∷ xs) zs e = ap (λ rest. x ∷ rest) (same-fron
 pub word-front : (k : ℕ) (xs : List ℕ) → k ≡ min (length xs) 8 → word (take k xs) ≡ word xs
 unfolding word
 word-front k xs e = ap (λ (bytes : List ℕ). cast_signed w64 (from_le_bytes w64 bytes)) (same-front 8 k xs (replicate 8 0) e)
+
+-- bytes with zeros behind them
+pub zeros_behind : (bytes : List ℕ) → length bytes ≤ 8 → bytes ++ drop (length bytes) (replicate 8 0) ≡ take 8 (bytes ++ replicate 8 0)
+zeros_behind bytes h =
+    let whole : length bytes + (8 - length bytes) ≡ 8 = omega arith in
+    ap (λ rest. bytes ++ rest) (drop-replicate (length bytes) 8 0 ∙ sym (take-replicate (8 - length bytes) 8 0 (omega arith)))
+    ∙ sym (take-append-add bytes (replicate 8 0) (8 - length bytes))
+    ∙ ap (λ m. take m (bytes ++ replicate 8 0)) whole
 
 -- the word that stands before some words
 pub next-words : (words done : ℕ) (bytes : List ℕ) → done < words →

@@ -1,4 +1,4 @@
-ghost use Rattle.std.specs.Prelude.{◌≡◌, ◌≤◌, length};
+ghost use Rattle.std.specs.Prelude.{◌≡◌, ◌≤◌, ◌++◌, length, replicate, take};
 ghost use Rattle.lrc_code.specs.Forms.{word, name_cell};
 ghost use Rattle.lrc_code.specs.Building.{Builds};
 
@@ -12,14 +12,24 @@ const NAME: u32 = 3;
 /// How many bytes of a name are in a word.
 const WORD: usize = 8;
 
+/// The bytes, with zeros behind them.
+#[tactic(auto, using(crate::proofs::Words::zeros_behind))]
+fn padded(bytes: &[u8]) -> [u8; WORD]
+    requires { length bytes.now ≤ 8 }
+    ensures { result ≡ take 8 (bytes.now ++ replicate 8 0) }
+{
+    let mut padded = [0; WORD];
+    padded[..bytes.len()].copy_from_slice(bytes);
+    padded
+}
+
 /// The number whose bytes, least first, are these, padded with zeros.
+#[tactic(auto, unfolding(crate::specs::Forms::word))]
 fn word_of(bytes: &[u8]) -> i64
     requires { length bytes.now ≤ 8 }
     ensures { result ≡ word bytes.now }
 {
-    let mut padded = [0; WORD];
-    padded[..bytes.len()].copy_from_slice(bytes);
-    i64::from_le_bytes(padded)
+    i64::from_le_bytes(padded(bytes))
 }
 
 /// A handle of the name: its bytes in words of eight.

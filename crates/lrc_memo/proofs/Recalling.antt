@@ -1,11 +1,11 @@
 -- What a recall finds in a memo word.
 use Rattle.std.proofs.lemmas.Nat.{div-mul-add}
-use Rattle.std.specs.Prelude.{List, Option, Some, None, IsSome, unwrap_or, min, Contains}
-use Rattle.std.proofs.lemmas.Bool.{false≢true}
-use Rattle.std.proofs.Common.{◌≡◌, ◌≢◌, ⊎_elim, ℕ, ◌+◌, ◌-◌, ◌/◌, ◌<◌, ◌^◌, refl, sym, ◌∙◌, ap, subst, arith}
-use Rattle.lrc_store.specs.Cells.{CellTree, nil, IsWithin}
+use Rattle.std.specs.Prelude.{List, None, min, Contains}
+use Rattle.std.proofs.Common.{◌≡◌, ◌≢◌, ⊎_elim, ℕ, ◌+◌, ◌-◌, ◌/◌, ◌<◌, ◌^◌, sym, ◌∙◌, ap, subst, arith}
+use Rattle.lrc_store.specs.Cells.{CellTree, IsWithin}
 use Rattle.lrc_store.specs.Standing.{Standing, IsKnown, IsRemembered, Told, meant}
 use Rattle.lrc_store.specs.Words.{Stays, Reads, Tells, Finds, Misses}
+use Rattle.lrc_store.proofs.Known.{kept-meant}
 use Rattle.lrc_rule.specs.Memo.{Relation, Reach, pair_word}
 use Rattle.lrc_rule.specs.Views.{View}
 use Rattle.lrc_table.specs.Memo.{IsKnownPair, IsKnownWord}
@@ -34,14 +34,6 @@ misses s w m k i call no_memo e h = record { missing = subst (λ o. Told o (λ p
 
 -- ---- a result is found
 
-some_meant : (o : Option CellTree) → IsSome o → o ≡ Some (unwrap_or o nil)
-some_meant None h = absurd (false≢true h)
-some_meant (Some c) h = refl
-
--- a known handle stands for its cell later too
-meant_later : (s t : Standing) (handle : ℕ) → Stays s t → IsKnown s handle → meant t handle ≡ meant s handle
-meant_later s t handle h k = ap (λ (o : Option CellTree). unwrap_or o nil) (h.known handle (meant s handle) (some_meant (s.known handle) k))
-
 find : (allows : Relation) (reach : Reach) (s : Standing) (w : View) (m : ℕ) (i : List ℕ) (call outcome : ℕ) (before : CellTree) → meant (standing w) call ≡ before → m ≡ s.missed → s.memo ≡ None
     → Tells (standing w) outcome (meant (standing w) outcome) → allows (meant (standing w) call) (meant (standing w) outcome) → Told (standing w).seen (IsWithin (reach (meant (standing w) call) (meant (standing w) outcome)))
     → Finds allows reach s (with_own (standing w) m i) before (meant (standing w) outcome) outcome
@@ -63,7 +55,7 @@ finds allows reach s w m i call outcome word no_memo r k h names = ⊎_elim
     let few = p.small in
     let e : p.call ≡ call = omega (arith, same, small, few) in
     let f : p.outcome ≡ outcome = omega (arith, same, small, few) in
-    find allows reach s w m i call outcome _ (meant_later s (with_own (standing w) m i) call r.stays k) r.missed no_memo
+    find allows reach s w m i call outcome _ (kept-meant s (with_own (standing w) m i) call r.stays.known k) r.missed no_memo
     (subst (λ x. Tells (standing w) x (meant (standing w) x)) f p.tells)
     (subst (λ (x : ℕ × ℕ). allows (meant (standing w) x.0) (meant (standing w) x.1)) (λ i. (e i, f i)) p.allowed)
     (subst (λ (x : ℕ × ℕ). Told (standing w).seen (IsWithin (reach (meant (standing w) x.0) (meant (standing w) x.1)))) (λ i. (e i, f i)) p.reached))

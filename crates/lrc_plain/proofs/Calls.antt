@@ -1,5 +1,6 @@
 -- What the calls of a store of one owner do to what it stands for.
 use Rattle.std.proofs.Common.{◌≡◌, ◌≢◌, ◌⊎◌, inl, inr, ℕ, ◌+◌, ◌<◌, ◌≤◌, List, [], ◌∷◌, ◌++◌, length, get_or, refl, sym, ◌∙◌, ap, subst, suc, zero, arith, length-append, IsSome, Contains, Bool}
+use Rattle.std.proofs.lemmas.List.Elements.{Contains-append_left}
 use Rattle.std.specs.Prelude.{slice_get, unwrap_or, Result, Ok, Err, IfOk, OnErr, IsErr, IsTrue, ◌↔◌}
 use Rattle.lrc_store.specs.Cells.{CellTree, nil, pair, IsWithin}
 use Rattle.lrc_store.specs.Standing.{IsRemembered}
@@ -11,8 +12,8 @@ use Rattle.lrc_store.specs.declared.stores.Full.{Full}
 use Rattle.lrc_plain.specs.Shelf.{Shelf, at, IsNamed, IsShelf, IsPlaced, IsFullOf}
 use Rattle.lrc_plain.specs.Rows.{whole, IsFor, IsOver}
 use Rattle.lrc_plain.specs.Plain.{Plain, pairs, standing, state_of, outcome, IsMemo, IsFullAt}
-use Rattle.lrc_plain.proofs.RowLemmas.{at-push, below, whole-not_nil}
-use Rattle.lrc_plain.proofs.Lists.{contains-left, named-contained, named-cases, row-of_pair, pair-of_row}
+use Rattle.lrc_plain.proofs.RowLemmas.{at-push, below, pair_of, whole-not_nil}
+use Rattle.lrc_plain.proofs.Lists.{named-contained, named-cases, row-of_pair, pair-of_row}
 use Rattle.lrc_plain.proofs.Standings.{IsGrown, known-within, within-known, meant-at, adds, tells, full}
 
 -- two known handles stand for equal cells exactly where they are equal
@@ -25,9 +26,6 @@ same-cells s left right b k l r e =
       (λ t. ap (λ (h : Handle). unwrap_or (slice_get (nil ∷ s.cells) h.0) nil) (e.0 t)),
       (λ m. e.1 (ap handle (k.distinct left.0 right.0 a c (sym (meant-at s.cells left.0 a) ∙ m ∙ meant-at s.cells right.0 c)))),
     )
-
-pair_of : (tag : ℕ) (a b c d : CellTree) → a ≡ b → c ≡ d → pair tag a c ≡ pair tag b d
-pair_of tag a b c d e f = cc
 
 -- the pair of what two known handles stand for
 pub whole-meant : (s : Shelf) (tag : ℕ) (left right : Handle) → IsSome (slice_get (nil ∷ s.cells) left.0) → IsSome (slice_get (nil ∷ s.cells) right.0) →
@@ -120,7 +118,7 @@ memo-more allows reach s t c outcomes m k quota e = record {
   stays handle h = ap (λ (cells : List CellTree). at cells handle) e ∙ at-push s.cells c handle h
 
   kept : (cell : CellTree) → Contains s.cells cell → Contains t.cells cell
-  kept cell h = let P : List CellTree → Type 0 = λ cells. Contains cells cell in subst P (sym e) (contains-left s.cells (c ∷ []) cell h)
+  kept cell h = let P : List CellTree → Type 0 = λ cells. Contains cells cell in subst P (sym e) (Contains-append_left s.cells (c ∷ []) cell h)
 
   outcome-known : (handle : ℕ) → handle ≤ length s.cells → outcome outcomes handle ≤ length s.cells
   outcome-known zero h = omega arith

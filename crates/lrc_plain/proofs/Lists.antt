@@ -1,53 +1,23 @@
 -- Lists of cells by place, and the pairs of calls and results.
-use Rattle.std.proofs.Common.{◌≡◌, ◌≢◌, ◌⊎◌, inl, inr, ℕ, ◌<◌, ◌≤◌, List, [], ◌∷◌, ◌++◌, length, get_or, refl, sym, ◌∙◌, ap, subst, suc, zero, arith, length-append, Some, Contains}
-use Rattle.std.specs.Prelude.{slice_get}
+use Rattle.std.proofs.Common.{◌≡◌, ◌≢◌, ◌⊎◌, inl, inr, ℕ, ◌<◌, ◌≤◌, List, [], ◌∷◌, ◌++◌, length, get_or, refl, sym, ◌∙◌, ap, subst, suc, zero, arith, Contains}
+use Rattle.std.proofs.lemmas.List.{get_or_default}
+use Rattle.std.proofs.lemmas.List.Elements.{Contains-append_cases}
 use Rattle.lrc_store.specs.Cells.{CellTree, nil, number, pair, parts, HoldsParts}
 use Rattle.lrc_store.specs.Standing.{HasNoRepeats}
 use Rattle.lrc_plain.specs.Shelf.{Shelf, at, IsNamed, HasSides, IsShelf}
 use Rattle.lrc_plain.specs.Plain.{pairs, outcome}
 use Rattle.lrc_plain.proofs.RowLemmas.{at-push}
 
--- below the length the default is not asked
-pub get_or-any : {A : Type 0} (xs : List A) (i : ℕ) (d e : A) → i < length xs → get_or xs i d ≡ get_or xs i e
-get_or-any [] i d e h = absurd (omega arith)
-get_or-any (x ∷ xs) zero d e h = refl
-get_or-any (x ∷ xs) (suc i) d e h = get_or-any xs i d e (omega arith)
-
-pub get-some : (xs : List CellTree) (i : ℕ) (c : CellTree) → slice_get xs i ≡ Some c → (i < length xs) × (get_or xs i nil ≡ c)
-get-some [] i c e = cc
-get-some (x ∷ xs) zero c e = (omega arith, cc)
-get-some (x ∷ xs) (suc i) c e = let h = get-some xs i c e in (omega (arith, h.0), h.1)
-
-pub get-at : (xs : List CellTree) (i : ℕ) → i < length xs → slice_get xs i ≡ Some (get_or xs i nil)
-get-at [] i h = absurd (omega arith)
-get-at (x ∷ xs) zero h = refl
-get-at (x ∷ xs) (suc i) h = get-at xs i (omega arith)
-
 pub contains-at : (cells : List CellTree) (i : ℕ) (c : CellTree) → i < length cells → at cells (suc i) ≡ c → Contains cells c
-contains-at cells i c h e = (i, h, get_or-any cells i c nil h ∙ e)
+contains-at cells i c h e = (i, h, get_or_default cells i c nil h ∙ e)
 
 pub at-contained : (cells : List CellTree) (c : CellTree) → Contains cells c → (i : ℕ) × (i < length cells) × (at cells (suc i) ≡ c)
-at-contained cells c (i, h, e) = (i, h, get_or-any cells i nil c h ∙ e)
+at-contained cells c (i, h, e) = (i, h, get_or_default cells i nil c h ∙ e)
 
 -- a named cell is nil or in the list
 pub named-cases : (cells : List CellTree) (c : CellTree) → IsNamed cells c → (nil ≡ c) ⊎ Contains cells c
 named-cases cells c (zero, h, e) = inl e
 named-cases cells c (suc i, h, e) = inr (contains-at cells i c (omega arith) e)
-
-pub contains-left : (xs ys : List CellTree) (c : CellTree) → Contains xs c → Contains (xs ++ ys) c
-contains-left xs ys c (i, h, e) = (i, omega (arith, h, length-append xs ys), front xs ys i c h ∙ e) where
-  front : (xs ys : List CellTree) (i : ℕ) (c : CellTree) → i < length xs → get_or (xs ++ ys) i c ≡ get_or xs i c
-  front [] ys i c h = absurd (omega arith)
-  front (x ∷ xs) ys zero c h = refl
-  front (x ∷ xs) ys (suc i) c h = front xs ys i c (omega arith)
-
-pub contains-split : (xs ys : List CellTree) (c : CellTree) → Contains (xs ++ ys) c → Contains xs c ⊎ Contains ys c
-contains-split [] ys c h = inr h
-contains-split (x ∷ xs) ys c (zero, h, e) = inl (0, omega arith, e)
-contains-split (x ∷ xs) ys c (suc i, h, e) = over (contains-split xs ys c (i, omega (arith, h), e)) where
-  over : Contains xs c ⊎ Contains ys c → Contains (x ∷ xs) c ⊎ Contains ys c
-  over (inl (k, l, f)) = inl (suc k, omega (arith, l), f)
-  over (inr g) = inr g
 
 -- the sides of a cell in a row are nil or in a row
 pub sides-at : (s : Shelf) → IsShelf s → (c : CellTree) → Contains s.cells c → HasSides s.cells c
@@ -74,7 +44,7 @@ parts-held s k (pair tag left right) n part found =
           Contains s.cells part
       over (inl never) f lefts rights = cc
       over (inr held) (zero, h, e) lefts rights = let P : CellTree → Type 0 = Contains s.cells in subst P e held
-      over (inr held) (suc i, h, e) lefts rights = behind (sides-at s k (pair tag left right) held) (contains-split (parts left) (parts right) part (i, omega (arith, h), e)) lefts rights
+      over (inr held) (suc i, h, e) lefts rights = behind (sides-at s k (pair tag left right) held) (Contains-append_cases (parts left) (parts right) part (i, omega (arith, h), e)) lefts rights
 
 pub named-contained : (cells : List CellTree) (c : CellTree) → Contains cells c → IsNamed cells c
 named-contained cells c h = let p = at-contained cells c h in (suc p.0, omega (arith, p.1), p.2)

@@ -1,9 +1,10 @@
 -- What is kept of calls: found again, and one result more.
-use Rattle.std.proofs.Common.{◌≡◌, ◌≢◌, ◌⊎◌, inl, inr, ℕ, ◌+◌, ◌-◌, ◌^◌, ◌<◌, ◌≤◌, List, [], ◌∷◌, ◌++◌, length, get_or, refl, sym, ◌∙◌, ap, subst, suc, zero, arith, IsSome, Contains}
-use Rattle.std.specs.Prelude.{slice_get, slice_set, unwrap_or, min}
+use Rattle.std.proofs.Common.{◌≡◌, ◌≢◌, ◌⊎◌, inl, inr, ℕ, ◌-◌, ◌<◌, ◌≤◌, List, [], ◌∷◌, ◌++◌, length, get_or, refl, sym, ◌∙◌, ap, subst, suc, zero, arith, IsSome, Contains}
+use Rattle.std.specs.Prelude.{slice_get, slice_set, unwrap_or}
 use Rattle.std.proofs.lemmas.List.{length-set, set-get_or, get_or-set_same, get_or-set_other}
 use Rattle.lrc_store.specs.Cells.{CellTree, nil, IsWithin}
-use Rattle.lrc_store.specs.Words.{Finds, Misses, Gains}
+use Rattle.lrc_store.specs.Standing.{IsRemembered}
+use Rattle.lrc_store.specs.Words.{Finds, Gains}
 use Rattle.lrc_plain.specs.Shelf.{Shelf, at, IsShelf}
 use Rattle.lrc_plain.specs.Plain.{Plain, pairs, standing, outcome, IsMemo}
 use Rattle.lrc_plain.proofs.Standings.{known-within, meant-at, tells}
@@ -43,15 +44,13 @@ finds allows reach s outcomes missed call handle m known e n =
     let Q : CellTree → Type 0 = λ y. Finds allows reach (standing s outcomes missed) (standing s outcomes missed) (at s.cells call) y handle in
     subst P (sym (meant-at s.cells call h)) (subst Q (sym (meant-at s.cells handle o)) (finds-at allows reach s outcomes missed call handle m h (sym e) (λ z. n (e ∙ z))))
 
--- a call that has none is missed
-pub misses : {M : Type 0} (v now : Plain M) (call value : ℕ) → v ≡ now → IsShelf now.shelf → IsSome (slice_get (nil ∷ now.shelf.cells) call) → outcome now.outcomes call ≡ 0 →
-    value ≡ min (v.missed + 1) (2 ^ 64 - 1) → Misses (standing now.shelf now.outcomes now.missed) (standing v.shelf v.outcomes value) (meant_in now.shelf.cells call)
-misses {M} v now call value e k known z count = record {
-  missing = let h = known-within now.shelf.cells call known in
-      let P : CellTree → Type 0 = λ x. ¬ ((o : CellTree) × Contains (pairs now.shelf.cells now.shelf.cells now.outcomes) (x, o)) in
-      subst P (sym (meant-at now.shelf.cells call h)) (missing now.shelf now.outcomes call k h z);
-  missed = count ∙ ap (λ (p : Plain M). min (p.missed + 1) (2 ^ 64 - 1)) e;
-}
+-- a call that has none is in no pair
+pub missing-meant : (s : Shelf) (outcomes : List ℕ) (call : ℕ) → IsShelf s → IsSome (slice_get (nil ∷ s.cells) call) → outcome outcomes call ≡ 0 →
+    ¬ IsRemembered (pairs s.cells s.cells outcomes) (meant_in s.cells call)
+missing-meant s outcomes call k known z =
+    let h = known-within s.cells call known in
+    let P : CellTree → Type 0 = λ x. ¬ IsRemembered (pairs s.cells s.cells outcomes) x in
+    subst P (sym (meant-at s.cells call h)) (missing s outcomes call k h z)
 
 decide : (a b : ℕ) → (a ≡ b) ⊎ (a ≢ b)
 decide zero zero = inl refl

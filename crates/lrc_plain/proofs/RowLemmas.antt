@@ -26,7 +26,7 @@ at-push cells more (suc i) h = get_or-append cells (more ∷ []) nil i (omega ar
 pub at-last : (cells : List CellTree) (more : CellTree) → at (cells ++ more ∷ []) (suc (length cells)) ≡ more
 at-last cells more = get_or-append_seam cells more [] nil
 
-pair_of : (tag : ℕ) (a b c d : CellTree) → a ≡ b → c ≡ d → pair tag a c ≡ pair tag b d
+pub pair_of : (tag : ℕ) (a b c d : CellTree) → a ≡ b → c ≡ d → pair tag a c ≡ pair tag b d
 pair_of tag a b c d e f = cc
 
 -- a form over known handles keeps its cell after a row more

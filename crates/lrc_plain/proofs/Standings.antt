@@ -1,28 +1,27 @@
 -- What a store of one owner stands for.
-use Rattle.std.proofs.Common.{◌≡◌, ◌≢◌, ◌⊎◌, inl, inr, ℕ, ◌<◌, ◌≤◌, List, [], ◌∷◌, ◌++◌, length, get_or, refl, sym, ◌∙◌, ap, subst, suc, arith, length-append, Option, Some, None, IsSome, Contains}
+use Rattle.std.proofs.Common.{◌≡◌, ◌≢◌, ◌⊎◌, inl, inr, ℕ, ◌<◌, ◌≤◌, List, [], ◌∷◌, ◌++◌, length, get_or, refl, sym, ◌∙◌, ap, subst, suc, arith, length-append, Option, Some, IsSome, Contains}
+use Rattle.std.proofs.lemmas.List.Elements.{Contains-append_left}
+use Rattle.std.proofs.lemmas.Option.{slice_get-get_or, slice_get_within, get_or_from_slice_get}
 use Rattle.std.specs.Prelude.{slice_get, unwrap_or}
 use Rattle.lrc_store.specs.Cells.{CellTree, nil, IsWithin}
 use Rattle.lrc_store.specs.Standing.{IsSound, IsMap}
 use Rattle.lrc_store.specs.Words.{Adds, Tells, IsFullFor}
+use Rattle.lrc_store.proofs.Known.{some_meant}
 use Rattle.lrc_plain.specs.Shelf.{Shelf, at, IsNamed, IsShelf}
 use Rattle.lrc_plain.specs.Plain.{pairs, standing}
 use Rattle.lrc_plain.proofs.RowLemmas.{at-push}
-use Rattle.lrc_plain.proofs.Lists.{get-some, get-at, at-contained, named-contained, named-cases, parts-held, no_repeats, row-of_pair, pairs-push, contains-left}
+use Rattle.lrc_plain.proofs.Lists.{at-contained, named-contained, named-cases, parts-held, no_repeats, row-of_pair, pairs-push}
 
 -- a handle stands for its place in the list
 pub stands-at : (cells : List CellTree) (handle : ℕ) (c : CellTree) → handle ≤ length cells → at cells handle ≡ c → slice_get (nil ∷ cells) handle ≡ Some c
-stands-at cells handle c h e = get-at (nil ∷ cells) handle (omega arith) ∙ ap (λ x. Some x) e
+stands-at cells handle c h e = slice_get-get_or (nil ∷ cells) handle nil (omega arith) ∙ ap (λ x. Some x) e
 
 pub at-stands : (cells : List CellTree) (handle : ℕ) (c : CellTree) → slice_get (nil ∷ cells) handle ≡ Some c → (handle ≤ length cells) × (at cells handle ≡ c)
-at-stands cells handle c e = let p = get-some (nil ∷ cells) handle c e in (omega (arith, p.0), p.1)
-
-some-stands : (o : Option CellTree) → IsSome o → (c : CellTree) × (o ≡ Some c)
-some-stands None h = cc
-some-stands (Some c) h = (c, refl)
+at-stands cells handle c e = let h = slice_get_within (nil ∷ cells) handle c e in (omega arith, get_or_from_slice_get (nil ∷ cells) handle c nil e)
 
 -- a known handle is at most the number of rows
 pub known-within : (cells : List CellTree) (handle : ℕ) → IsSome (slice_get (nil ∷ cells) handle) → handle ≤ length cells
-known-within cells handle h = let p = some-stands (slice_get (nil ∷ cells) handle) h in (at-stands cells handle p.0 p.1).0
+known-within cells handle h = (at-stands cells handle _ (some_meant (slice_get (nil ∷ cells) handle) h)).0
 
 pub within-known : (cells : List CellTree) (handle : ℕ) → handle ≤ length cells → IsSome (slice_get (nil ∷ cells) handle)
 within-known cells handle h = let P : Option CellTree → Type 0 = IsSome in subst P (sym (stands-at cells handle (at cells handle) h refl)) refl
@@ -75,7 +74,7 @@ keeps s t c (inr e) handle cell h =
 
 seen-grows : (s t : Shelf) (c : CellTree) → IsGrown s t c → IsWithin s.cells t.cells
 seen-grows s t c (inl e) cell h = let P : List CellTree → Type 0 = λ cells. Contains cells cell in subst P (sym e) h
-seen-grows s t c (inr e) cell h = let P : List CellTree → Type 0 = λ cells. Contains cells cell in subst P (sym e) (contains-left s.cells (c ∷ []) cell h)
+seen-grows s t c (inr e) cell h = let P : List CellTree → Type 0 = λ cells. Contains cells cell in subst P (sym e) (Contains-append_left s.cells (c ∷ []) cell h)
 
 pairs-grown : (s t : Shelf) (c : CellTree) (outcomes : List ℕ) →
     ((i : ℕ) → length s.cells ≤ i → i < length outcomes → get_or outcomes i 0 ≡ 0) →

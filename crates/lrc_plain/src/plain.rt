@@ -1,11 +1,11 @@
-ghost use Rattle.std.specs.Prelude.{◌≡◌, ◌+◌, ◌<◌, ◌≤◌, ◌^◌, ◌↔◌, [], length, IfOk, IfErr, OnErr, IsErr, IsTrue};
+ghost use Rattle.std.specs.Prelude.{◌≡◌, ◌+◌, ◌-◌, ◌<◌, ◌≤◌, ◌^◌, ◌↔◌, [], length, min, slice_set, vec_len, IfOk, IfErr, OnErr, IsErr, IsTrue, MatchOption};
 ghost use Rattle.lrc_store.specs.Cells.{CellTree, number, pair, IsWithin};
 ghost use Rattle.lrc_store.specs.Standing.{Standing, IsSound, IsKnown, Told, meant};
-ghost use Rattle.lrc_store.specs.Words.{Puts, Reads, Stays, Shows, Recalls, Remembers};
+ghost use Rattle.lrc_store.specs.Words.{Puts, Reads, Stays, Shows, Finds, Recalls, Remembers};
 ghost use Rattle.lrc_plain.specs.Shelf.{at, IsShelf, IsPlaced, IsFullOf};
 ghost use Rattle.lrc_plain.specs.Rows.{whole, IsFor, IsOver};
 ghost use Rattle.lrc_plain.specs.Plain.{state_of, meaning_of, outcome, IsMemo, IsNew, IsFullAt};
-ghost use Rattle.lrc_plain.specs.Recalled.{IsMissedAtZero};
+ghost use Rattle.lrc_plain.specs.Recalled.{IsMissedAtZero, IsMissing};
 
 use crate::rows::Rows;
 use lrc_store::{Cell, Full, Handle, Meaning, NoMeaning, Recall, Store};
@@ -99,8 +99,8 @@ impl<M: Meaning> PlainStore<M> {
         self.rows.look(handle)
     }
 
-    /// The number of the handle of the remembered result, or 0.
-    fn outcome_of(&self, call: Handle) -> u32
+    /// The number of the handle that is kept for a call, or 0.
+    fn kept_for(&self, call: Handle) -> u32
         requires { call.0 ≤ length self.now.shelf.cells }
         ensures value { result ≡ outcome self.now.outcomes call.0 }
         ensures memo { IsMemo (M.allows self.now.meaning) (M.reach self.now.meaning) self.now.shelf self.now.outcomes }
@@ -111,6 +111,31 @@ impl<M: Meaning> PlainStore<M> {
             self.outcomes[call.0 as usize - 1]
         }
     }
+
+    /// The handle of the remembered result of a call.
+    fn outcome_of(&self, call: Handle) -> Option<Handle>
+        requires { IsKnown (state_of self.now) call.0 }
+        ensures { let s = state_of self.now in MatchOption result (IsMissing s (meant s call.0)) (λ outcome. Finds (M.allows self.now.meaning) (M.reach self.now.meaning) s s (meant s call.0) (meant s outcome.0) outcome.0) }
+    {
+        let kept = self.kept_for(call);
+        if kept == 0 { None } else { Some(Handle(kept)) }
+    }
+}
+
+/// The count of misses after one more, up to the type's last value.
+fn one_more(missed: u64) -> u64
+    ensures { result ≡ min (missed + 1) (2 ^ 64 - 1) }
+{
+    missed.saturating_add(1)
+}
+
+/// Writes the handle of a result for a call, which is not nil.
+fn write_outcome(outcomes: &mut Vec<u32>, call: Handle, outcome: Handle)
+    requires some { 1 ≤ call.0 }
+    requires within { call.0 ≤ vec_len outcomes.old }
+    ensures { outcomes.new.items ≡ slice_set outcomes.old.items (call.0 - 1) outcome.0 }
+{
+    outcomes[call.0 as usize - 1] = outcome.0;
 }
 
 impl<N: Meaning> Store for PlainStore<N> {
@@ -155,16 +180,17 @@ impl<N: Meaning> Store for PlainStore<N> {
         ensures zero { IsMissedAtZero result }
         ensures same_meaning { meaning_of self.new ≡ meaning_of self.old }
     {
-        let outcome = self.outcome_of(call);
-        if outcome == 0 {
-            self.missed = self.missed.saturating_add(1);
-            return Recall::Missed(0);
+        match self.outcome_of(call) {
+            Some(outcome) => Recall::Found(outcome),
+            None => {
+                self.missed = one_more(self.missed);
+                Recall::Missed(0)
+            }
         }
-        Recall::Found(Handle(outcome))
     }
 
     fn remember(&mut self, call: Handle, outcome: Handle) {
-        self.outcomes[call.0 as usize - 1] = outcome.0;
+        write_outcome(&mut self.outcomes, call, outcome);
     }
 
     fn forget(&mut self, place: u64) {

@@ -1,8 +1,7 @@
 -- What the calls of a pass do, in the words of a store.
-use Rattle.std.proofs.lemmas.Bool.{false≢true}
 use Rattle.std.proofs.lemmas.List.Elements.{Contains-append_left, Contains-append_right, Contains-append_cases}
 use Rattle.std.proofs.Common.{◌≡◌, ◌≢◌, inl, ⊎_elim, ℕ, ℤ, zero, suc, ◌-◌, ◌<◌, ◌≤◌, List, [], ◌∷◌, ◌++◌, refl, sym, ◌∙◌, ap, subst, arith}
-use Rattle.std.specs.Prelude.{Option, Some, None, IsSome, unwrap_or, Contains, option_to_list, Result, Ok, Err, IfOk, OnErr, slice_index_or}
+use Rattle.std.specs.Prelude.{Option, Some, None, unwrap_or, Contains, option_to_list, Result, Ok, Err, IfOk, OnErr, slice_index_or}
 use Rattle.std.specs.Int.{cast_signed, cast_unsigned, w64}
 use mathlib.Core.Logic.{dite}
 use native.Mathlib.Decide.{ℕ_discrete}
@@ -11,6 +10,7 @@ use Rattle.lrc_store.specs.Standing.{IsSound, IsKnown, HasNoRepeats, meant}
 use Rattle.lrc_store.specs.Words.{Keeps, Puts, Tells, IsFullFor, Reads as StoreReads}
 use Rattle.lrc_store.specs.declared.cells.Handle.{Handle}
 use Rattle.lrc_store.specs.declared.stores.Full.{Full}
+use Rattle.lrc_store.proofs.Known.{some_meant, is_some_from}
 use Rattle.lrc_rule.specs.declared.layout.Content.{Content}
 use Rattle.lrc_rule.specs.declared.layout.Layout.{Layout}
 use Rattle.lrc_rule.specs.Layout.{IsLayout}
@@ -134,13 +134,6 @@ store_reads p q c r = record {
 }
 
 -- ---- known handles
-
-some_meant : (o : Option CellTree) → IsSome o → o ≡ Some (unwrap_or o nil)
-some_meant None h = absurd (false≢true h)
-some_meant (Some c) h = refl
-
-is_some_from : (o : Option CellTree) (c : CellTree) → o ≡ Some c → IsSome o
-is_some_from o c e = subst IsSome (sym e) refl
 
 pub known_stands : (v : View) → IsCurrent v → (handle : ℕ) → IsKnown (standing v) handle → Stands v.layout (now v) (meant (standing v) handle) handle
 known_stands v c handle h = known-to v.layout (now v) c.table _ handle (some_meant (cell_at v.layout (now v) v.layout.rows handle) h)

@@ -82,14 +82,11 @@ impl<M: Meaning> Pass<M> {
         }
         let content = self.content_of(table, handle.0 - 1);
         if content.tag == 0 {
-            Cell::Number(content.left.cast_signed())
-        } else {
-            Cell::Pair(
-                content.tag as u32,
-                Handle(content.left as u32),
-                Handle(content.right as u32),
-            )
+            return Cell::Number(content.left.cast_signed());
         }
+        let left = Handle(content.left as u32);
+        let right = Handle(content.right as u32);
+        Cell::Pair(content.tag as u32, left, right)
     }
 
     /// Whether both handles stand for equal cells, as they do exactly where they are equal.

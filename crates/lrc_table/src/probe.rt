@@ -1,5 +1,5 @@
 //! How a pass seeks the row of a cell, and publishes it where there is none.
-ghost use Rattle.std.specs.Prelude.{◌≡◌, ℕ, ◌+◌, ◌%◌, ◌<◌, ◌≤◌, ◌^◌, length, MatchOption};
+ghost use Rattle.std.specs.Prelude.{◌≡◌, ℕ, ◌+◌, ◌%◌, ◌<◌, ◌≤◌, ◌^◌, length, max, MatchOption};
 ghost use Rattle.lrc_store.specs.Cells.{CellTree};
 ghost use Rattle.lrc_rule.specs.Rows.{Stands, Fits, content, depth, IsPublished, Names};
 ghost use Rattle.lrc_rule.specs.Views.{now, next};
@@ -30,6 +30,15 @@ fn place_after(place: u32, steps: u32, places: u32) -> u32
 {
     let sum = place + steps;
     if sum < places { sum } else { sum - places }
+}
+
+/// How deep a pair is whose sides are so deep.
+fn depth_over(left: u64, right: u64) -> u64
+    requires left { left < 2 ^ 32 }
+    requires right { right < 2 ^ 32 }
+    ensures { result ≡ 1 + max left right }
+{
+    1 + left.max(right)
 }
 
 impl<M: Meaning> Pass<M> {
@@ -77,7 +86,7 @@ impl<M: Meaning> Pass<M> {
         }
         let left = self.depth_of(table, content.left);
         let right = self.depth_of(table, content.right);
-        1 + left.max(right)
+        depth_over(left, right)
     }
 
     /// Stores the four words of a row for the sought cell.

@@ -1,4 +1,5 @@
-use Rattle.lrc_code.proofs.Growing.{right-within, builds-stopped, pair-then, kept-meant, stands-meant}
+use Rattle.lrc_store.proofs.Known.{kept-meant, stands-meant}
+use Rattle.lrc_code.proofs.Growing.{right-within, builds-stopped, pair-then}
 use Rattle.lrc_code.proofs.calls.put_call.Goals as goal
 
 pub returns-in_err-lists-clause-builds : goal.returns-in_err-lists-clause-builds

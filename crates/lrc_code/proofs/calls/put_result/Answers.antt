@@ -5,7 +5,8 @@ use mir.Syntax.{w64}
 use mir.Val.{to_z, of_z}
 use Rattle.lrc_store.specs.Cells.{number}
 use Rattle.lrc_store.specs.Standing.{meant}
-use Rattle.lrc_code.proofs.Growing.{left-within, right-within, builds-stopped, builds-then, builds-as, same-pair, pair-then, kept-meant, stands-meant}
+use Rattle.lrc_store.proofs.Known.{kept-meant, stands-meant}
+use Rattle.lrc_code.proofs.Growing.{left-within, right-within, builds-stopped, builds-then, builds-as, same-pair, pair-then}
 use Rattle.lrc_code.proofs.calls.put_result.Goals as goal
 
 pub returns-in_err-number-clause-builds : goal.returns-in_err-number-clause-builds

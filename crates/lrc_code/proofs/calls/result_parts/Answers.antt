@@ -5,7 +5,8 @@ use mir.Syntax.{w64}
 use mir.Val.{to_z, of_z}
 use Rattle.lrc_store.specs.Cells.{CellTree, number, pair}
 use Rattle.lrc_code.specs.Forms.{result_cell}
-use Rattle.lrc_code.proofs.Growing.{kept-meant, reads-then}
+use Rattle.lrc_store.proofs.Known.{kept-meant}
+use Rattle.lrc_code.proofs.Growing.{reads-then}
 use Rattle.lrc_code.proofs.calls.result_parts.Goals as goal
 
 -- the number of the left side

@@ -4,7 +4,8 @@ use mir.Syntax.{w64}
 use mir.Val.{SFits, to_z, of_z}
 use Rattle.lrc_meaning.specs.Tree.{tree}
 use Rattle.lrc_code.specs.Forms.{tree_cell}
-use Rattle.lrc_code.proofs.Growing.{builds-as, builds-then, linked, adds-more, adds-none, more-stopped, stands-meant, tells-as}
+use Rattle.lrc_store.proofs.Known.{stands-meant}
+use Rattle.lrc_code.proofs.Growing.{builds-as, builds-then, linked, adds-more, adds-none, more-stopped, tells-as}
 use Rattle.lrc_code.proofs.Kids.{next-kid, no-kids, kid-below, node-kids-below, node-production-below, int-cell, bool-cell, name-cell, node-kid-within, node-own-kid-within, node-done}
 use Rattle.lrc_code.proofs.terms.+put_term.Goals as goal
 

@@ -1,5 +1,5 @@
 use Rattle.lrc_store.specs.Standing.{meant}
-use Rattle.lrc_code.proofs.Growing.{stands-meant}
+use Rattle.lrc_store.proofs.Known.{stands-meant}
 use Rattle.lrc_code.proofs.tests.parts_of_a_call.Goals as goal
 
 pub call_parts-requires-clause-call : goal.call_parts-requires-clause-call

@@ -2,7 +2,7 @@ use Rattle.std.proofs.Common.{◌≡◌, ℕ, [], ◌∷◌, ◌∙◌, ap, refl
 use Rattle.lrc_store.specs.Cells.{nil}
 use Rattle.lrc_store.specs.Standing.{Standing, Stands, meant}
 use Rattle.lrc_code.specs.Forms.{more_cell, list_cell, node_cell}
-use Rattle.lrc_code.proofs.Growing.{stands-meant, stands-known, kept-meant}
+use Rattle.lrc_store.proofs.Known.{stands-meant, stands-known, kept-meant}
 use Rattle.lrc_code.proofs.tests.parts_of_a_node.Goals as goal
 
 -- a node with one child

@@ -1,6 +1,6 @@
 use Rattle.std.proofs.Common.{arith}
 use Rattle.lrc_store.specs.Standing.{meant}
-use Rattle.lrc_code.proofs.Growing.{stands-meant}
+use Rattle.lrc_store.proofs.Known.{stands-meant}
 use Rattle.lrc_code.proofs.tests.parts_of_a_result.Goals as goal
 
 pub result_parts-requires-clause-outcome : goal.result_parts-requires-clause-outcome

@@ -24,5 +24,5 @@ returns-clause-depth g c = let s = sides _ _ _ c.args.content c.requires.fits c.
     let l = c.depth_of-left.ensures.depth s.left s.stands_left in
     let r = c.depth_of-right.ensures.depth s.right (Stands-later c.args.self.now.view c.depth_of-left.new.self.view s.right _ c.requires.current c.depth_of-left.ensures.reads.follows s.stands_right) in
     let d = s.deep in
-    let m = c.max.ensures in
+    let m = c.depth_over.ensures in
     omega (arith, l, r, d, m)

@@ -19,16 +19,16 @@ overflow_cast-result g c =
     let h = pair_form q.view _ c.content_of-content.result c.content_of-content.ensures.reads.follows.current f c.if-content-eq0.false in
     let t = h.tag in omega (arith, t)
 
-pub overflow_cast-result-else-content-eq0 : goal.overflow_cast-result-else-content-eq0
-overflow_cast-result-else-content-eq0 g c =
+pub overflow_cast-left : goal.overflow_cast-left
+overflow_cast-left g c =
     let n = eqb-false _ _ (sym c.eq.ensures ∙ c.if-eq.false) in
     let p = c.args.self.now in let q = c.content_of-content.new.self in
     let f = look_fits p q c.args.handle.0 c.content_of-content.result c.published-rows.ensures.current c.content_of-content.ensures.reads c.requires.known (omega (arith, n)) c.content_of-content.ensures.content in
     let h = pair_form q.view _ c.content_of-content.result c.content_of-content.ensures.reads.follows.current f c.if-content-eq0.false in
     let t = h.left_le in let r = c.published-rows.ensures.layout.rows in let e = ap (λ l. l.rows) c.content_of-content.ensures.reads.follows.layout in omega (arith, t, r, e)
 
-pub overflow_cast-result-else-content-eq0-2 : goal.overflow_cast-result-else-content-eq0-2
-overflow_cast-result-else-content-eq0-2 g c =
+pub overflow_cast-right : goal.overflow_cast-right
+overflow_cast-right g c =
     let n = eqb-false _ _ (sym c.eq.ensures ∙ c.if-eq.false) in
     let p = c.args.self.now in let q = c.content_of-content.new.self in
     let f = look_fits p q c.args.handle.0 c.content_of-content.result c.published-rows.ensures.current c.content_of-content.ensures.reads c.requires.known (omega (arith, n)) c.content_of-content.ensures.content in
@@ -45,13 +45,13 @@ returns-then-content-eq0-clause-shows g c =
 pub returns-then-content-eq0-clause-reads : goal.returns-then-content-eq0-clause-reads
 returns-then-content-eq0-clause-reads g c = store_reads _ _ c.published-rows.ensures.current c.content_of-content.ensures.reads
 
-pub returns-else-content-eq0-clause-shows : goal.returns-else-content-eq0-clause-shows
-returns-else-content-eq0-clause-shows g c =
+pub returns-clause-shows : goal.returns-clause-shows
+returns-clause-shows g c =
     let n = eqb-false _ _ (sym c.eq.ensures ∙ c.if-eq.false) in
     let p = c.args.self.now in let q = c.content_of-content.new.self in
     let f = look_fits p q c.args.handle.0 c.content_of-content.result c.published-rows.ensures.current c.content_of-content.ensures.reads c.requires.known (omega (arith, n)) c.content_of-content.ensures.content in
     let h = pair_form q.view _ c.content_of-content.result c.content_of-content.ensures.reads.follows.current f c.if-content-eq0.false in
     (h.left, h.right, h.is)
 
-pub returns-else-content-eq0-clause-reads : goal.returns-else-content-eq0-clause-reads
-returns-else-content-eq0-clause-reads g c = store_reads _ _ c.published-rows.ensures.current c.content_of-content.ensures.reads
+pub returns-clause-reads : goal.returns-clause-reads
+returns-clause-reads g c = store_reads _ _ c.published-rows.ensures.current c.content_of-content.ensures.reads
