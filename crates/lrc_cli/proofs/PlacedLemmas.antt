@@ -1,8 +1,9 @@
 -- The occurrence on a cycle that the ordered test tells is one of its production.
-use Rattle.std.proofs.Common.{◌≡◌, ℕ, zero, suc, ◌<◌, inl, inr, Bool, true, false, IsTrue, List, [], ◌∷◌, ◌++◌, All, Some, map, length, get_or, slice_get, refl, subst, arith, length-append}
+use Rattle.std.proofs.Common.{◌≡◌, ℕ, zero, suc, ◌<◌, inl, inr, Bool, true, false, IsTrue, List, [], ◌∷◌, ◌++◌, All, Some, map, length, slice_get, refl, arith, length-append}
 use Rattle.std.specs.List.{flat_map, Contains}
+use Rattle.std.proofs.lemmas.Option.{slice_get_within}
 use Rattle.std.proofs.lemmas.List.{length-map}
-use Rattle.std.proofs.lemmas.List.Elements.{All-contains, Contains-get_or}
+use Rattle.std.proofs.lemmas.List.Elements.{All-contains}
 use Rattle.lrc_base.specs.declared.grammar.Sort.{Sort}
 use Rattle.lrc_base.specs.declared.grammar.Kid.{Kid}
 use Rattle.lrc_base.specs.declared.grammar.Extra.{Extra}
@@ -18,6 +19,7 @@ use Rattle.lrc_order.specs.Induced.{Leads, by_need, by_sort, Induced, is_given, 
 use Rattle.lrc_order.specs.Sets.{HasTurn, Placed, Before}
 use Rattle.lrc_order.specs.Extended.{Extended, ExtendedPath}
 use Rattle.lrc_order.specs.Ordered.{IsInducedCycle, IsExtendedCycle}
+use Rattle.lrc_order.proofs.MemberLemmas.{member_slice}
 use Rattle.lrc_ordered.specs.Setup.{IsNeedBelow}
 use Rattle.lrc_ordered.proofs.PlaceLemmas.{IsWithin, places_within}
 use Rattle.lrc_ordered.proofs.BridgeLemmas.{closed_within}
@@ -67,26 +69,13 @@ module _ (sorts : List Sort) where
 
 -- ---- an attribute that comes before another is one of its sort
 
-slice_below : {A : Type 0} (xs : List A) (i : ℕ) (x : A) → slice_get xs i ≡ Some x → i < length xs
-slice_below [] i x e = absurd (cc)
-slice_below (y ∷ ys) zero x e = omega arith
-slice_below (y ∷ ys) (suc i) x e = let rest = slice_below ys i x e in omega arith
-
-pub among : {A : Type 0} (xs : List A) (i : ℕ) (x : A) → slice_get xs i ≡ Some x → Contains xs x
-among xs i x e = let here = slice_below xs i x e in subst (Contains xs) (got xs i x e) (Contains-get_or xs i x here)
-  where
-    got : {A : Type 0} (xs : List A) (i : ℕ) (x : A) → slice_get xs i ≡ Some x → get_or xs i x ≡ x
-    got [] i x e = refl
-    got (y ∷ ys) zero x e = cc
-    got (y ∷ ys) (suc i) x e = got ys i x e
-
 module _ (g : Grammar) (well : IsTrue (is_well_formed g)) where
   placed_below : (s k a : ℕ) → Placed g [] s k a → a < length (attrs_of_sort g.sorts s)
   placed_below s zero a p = absurd p
   placed_below s (suc k) a (inl p) = placed_below s k a p
   placed_below s (suc k) a (inr p) =
       let turn = All-contains (HasTurn g s (suc k)) p.set a p.can_stand.turn p.member in
-      slice_below (attrs_of_sort g.sorts s) a turn.attr turn.is_there
+      slice_get_within (attrs_of_sort g.sorts s) a turn.attr turn.is_there
 
   induced_below : (s a b : ℕ) → Induced g [] s a b → a < length (attrs_of_sort g.sorts s)
   induced_below _ _ _ (is_given p s a b in_grammar stands given) = absurd (nothing given)
@@ -127,7 +116,7 @@ module _ (g : Grammar) (well : IsTrue (is_well_formed g)) where
   placed_at production occurrence p is below = record {
     at = p;
     is_there = is;
-    within = let n = below (among g.prods production p is) in let same = as_many g.sorts p in omega arith;
+    within = let n = below (member_slice g.prods production p is) in let same = as_many g.sorts p in omega arith;
   }
 
   induced_placed : (production occurrence : ℕ) → IsInducedCycle g [] production occurrence → IsPlaced g production occurrence

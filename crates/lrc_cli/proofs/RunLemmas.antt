@@ -1,7 +1,7 @@
 -- From a session that can be run to its replies, and to the text of the run.
-use Rattle.std.proofs.Common.{◌≡◌, ℕ, Bool, true, false, ◌&&◌, ◌<◌, ◌≤◌, IsTrue, List, [], ◌∷◌, map, Option, option_map, Ok, inl, inr, subst, sym, ap, refl, ◌∙◌}
+use Rattle.std.proofs.Common.{◌≡◌, ℕ, Bool, true, false, ◌<◌, ◌≤◌, IsTrue, List, [], ◌∷◌, map, Option, option_map, Ok, inl, inr, subst, sym, ap, refl, ◌∙◌}
 use Rattle.std.specs.List.{list_all}
-use Rattle.std.proofs.lemmas.Bool.{and_parts}
+use Rattle.std.proofs.lemmas.Bool.{and_parts, and_from}
 use Rattle.std.proofs.lemmas.Bool.Decides.{leb_tells}
 use Rattle.std.proofs.lemmas.List.Folds.{list_all-map}
 use Rattle.lrc_base.specs.declared.grammar.Attr.{Attr}
@@ -25,10 +25,6 @@ use Rattle.lrc_cli.specs.Printed.{one_session}
 use Rattle.lrc_cli.specs.Running.{IsPlainSession}
 use Rattle.lrc_cli.proofs.TextLemmas.{run_text-one_session}
 
-both : (a b : Bool) → a ≡ true → b ≡ true → (a && b) ≡ true
-both true b e f = f
-both false b e f = absurd (cc)
-
 -- ---- puts whose terms fit
 
 fitting_put : (prods : List Production) (e : Edit) → edit_fits prods e ≡ true → is_put (change e) ≡ true → is_fitting_put prods e ≡ true
@@ -42,7 +38,7 @@ each_fitting prods [] fit put = refl
 each_fitting prods (e ∷ es) fit put =
     let fits = and_parts (edit_fits prods e) (list_all (edit_fits prods) es) fit in
     let puts = and_parts (is_put (change e)) (list_all (λ (x : Edit). is_put (change x)) es) put in
-    both _ _ (fitting_put prods e fits.0 puts.0) (each_fitting prods es fits.1 puts.1)
+    and_from _ _ (fitting_put prods e fits.0 puts.0) (each_fitting prods es fits.1 puts.1)
 
 pub fitting_puts : (g : Grammar) (sessions : List Script) (script : Script) → sessions ≡ script ∷ [] → IsTrue (list_all (script_fits g.prods g.start) sessions)
     → IsTrue (list_all (λ (e : Edit). is_put (change e)) script.edits) → IsTrue (are_fitting_puts g.prods script.edits)

@@ -1,7 +1,7 @@
 -- Lemmas on printed texts.
 use Rattle.std.proofs.Common.{◌≡◌, ℕ, zero, suc, ◌+◌, ◌<◌, ◌≤◌, min, ℤ, List, [], ◌∷◌, ◌++◌, codes, decimal, map, drop, length, get_or, ◌⊎◌, inl, inr, ap, sym, ◌∙◌, refl, arith, Bool, true, false, not, cond, IsTrue, ◌&&◌, Option, Some, None, option_map, eq-eqb, append_assoc}
 use Rattle.std.proofs.lemmas.List.{drop_all, append-nil}
-use Rattle.std.proofs.lemmas.Bool.{and_parts}
+use Rattle.std.proofs.lemmas.Bool.{and_parts, and_from, not-true}
 use Rattle.std.proofs.Math.Seq.{drop-length}
 use Rattle.std.specs.List.{list_all}
 use Rattle.std.specs.Fmt.{signed_decimal}
@@ -47,9 +47,6 @@ named_values-int prods [] vs = refl
 named_values-int prods (a ∷ rest) [] = refl
 named_values-int prods (a ∷ rest) (v ∷ vs) = ap (λ z. codes " " ++ (a.name ++ (codes "=" ++ (limited (signed_decimal v) ++ z)))) (named_values-int prods rest vs)
 
-both : (a b : Bool) → a ≡ true → b ≡ true → (a && b) ≡ true
-both a b e f = ap (λ z. z && b) e ∙ f
-
 bool_again : (b : Bool) → if_same b b ≡ true
 bool_again true = refl
 bool_again false = refl
@@ -60,22 +57,18 @@ mutual
   same_tree-itself (int i) = (Decides-int_eq i i).1 refl
   same_tree-itself (bool b) = bool_again b
   same_tree-itself (name n) = (bytes_eq-Decides n n).1 refl
-  same_tree-itself (node p kids) = both _ _ (eq-eqb p p refl) (same_trees-itself kids)
+  same_tree-itself (node p kids) = and_from _ _ (eq-eqb p p refl) (same_trees-itself kids)
 
   same_trees-itself : (ts : Trees) → same_trees ts ts ≡ true
   same_trees-itself none = refl
-  same_trees-itself (more t ts) = both _ _ (same_tree-itself t) (same_trees-itself ts)
-
-not_true : (b : Bool) → not b ≡ true → b ≡ false
-not_true true e = absurd (cc)
-not_true false e = refl
+  same_trees-itself (more t ts) = and_from _ _ (same_tree-itself t) (same_trees-itself ts)
 
 -- where nothing is inherited, each attribute is synthesised
 all_synthesised : (attrs : List Attr) → list_all (λ (a : Attr). not a.inherited) attrs ≡ true → synthesised_attrs attrs ≡ attrs
 all_synthesised [] e = refl
 all_synthesised (a ∷ rest) e =
     let parts = and_parts (not a.inherited) (list_all (λ (a : Attr). not a.inherited) rest) e in
-    ap (λ z. cond z (synthesised_attrs rest) (a ∷ synthesised_attrs rest)) (not_true _ parts.0) ∙ ap (λ (z : List Attr). a ∷ z) (all_synthesised rest parts.1)
+    ap (λ z. cond z (synthesised_attrs rest) (a ∷ synthesised_attrs rest)) (not-true _ parts.0) ∙ ap (λ (z : List Attr). a ∷ z) (all_synthesised rest parts.1)
 
 pub start_synthesised : (g : Grammar) → IsTrue (is_well_formed g) → synthesised_attrs (attrs_of_sort g.sorts g.start) ≡ attrs_of_sort g.sorts g.start
 start_synthesised g w = all_synthesised _ (and_right _ _ (and_right _ (is_start_right g.sorts g.start) w))

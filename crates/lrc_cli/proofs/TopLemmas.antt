@@ -15,7 +15,7 @@ use Rattle.lrc_order.specs.Extended.{ExtendedPath}
 use Rattle.lrc_order.specs.Ordered.{IsOrdered, IsAcyclic, IsFirstCycle}
 use Rattle.lrc_lines.specs.declared.failure.Cycle.{Cycle}
 use Rattle.std.proofs.lemmas.List.Elements.{All-contains}
-use Rattle.lrc_cli.proofs.PlacedLemmas.{among}
+use Rattle.lrc_order.proofs.MemberLemmas.{member_slice}
 use Rattle.lrc_words.specs.CommandLine.{Says, IsWithinRanges, AreRefused, texts, verb_of}
 use Rattle.lrc_lines.specs.declared.failure.Failure.{Failure}
 use Rattle.lrc_lines.specs.declared.failure.Failure.TheVariants as f
@@ -249,7 +249,7 @@ runs_tell_nothing command run (inr e) = absurd (cc)
 
 -- a grammar that is ordered has no cycle
 no_cycle : (prods : List Production) (Paths : Production → ℕ → ℕ → Type 0) (p x : ℕ) → All (λ q. IsAcyclic (Paths q)) prods → IsFirstCycle prods Paths p x → ⊥
-no_cycle prods Paths p x acyclic c = All-contains (λ q. IsAcyclic (Paths q)) prods c.production acyclic (among prods p c.production c.is_there) x c.least.0
+no_cycle prods Paths p x acyclic c = All-contains (λ q. IsAcyclic (Paths q)) prods c.production acyclic (member_slice prods p c.production c.is_there) x c.least.0
 
 ordered_has_none : (g : Grammar) (cycle : Cycle) (is_extended : Bool) (p x : ℕ) → IsOrdered g [] → IsCycleAt is_extended g p x → ⊥
 ordered_has_none g cycle true p x ordered c = no_cycle g.prods (ExtendedPath g []) p x ordered.extended c.1
