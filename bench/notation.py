@@ -5,8 +5,10 @@
 
 A job has 256 productions of 8 children, and sessions with a wide tree and many edits. It is read and
 accepted whole, and then answered by `not built`, since its grammar is not plain, so that only reading
-is measured. Prints megabytes a second of processor time of both, their ratio, beside it `wc -c` on the larger text, and
-bytes of memory a byte of text of a job of one-byte tokens. It measures and is no test.
+is measured. With a character that begins no token at its end, its tokens are read and nothing more, since
+the fault among them is told before the job is looked at. Prints megabytes a second of processor time of
+both jobs, their ratio, of the larger one's tokens, beside it `wc -c` on the larger text, and bytes of memory
+a byte of text of a job of one-byte tokens. It measures and is no test.
 """
 import os
 import subprocess
@@ -64,7 +66,7 @@ def worst(size):
     return (head + rows[0] + "{}").encode()
 
 
-def run(program, text, times):
+def run(program, text, times, fault="not built"):
     """The least processor time of some runs in seconds, and the peak memory in bytes."""
     best, peak = None, 0
     for _ in range(times):
@@ -76,7 +78,7 @@ def run(program, text, times):
             spent = used.ru_utime + used.ru_stime
             err.seek(0)
             said = err.read()
-        assert os.WEXITSTATUS(status) == 5 and said == b"lrc: job: not built\n", (status, said)
+        assert os.WEXITSTATUS(status) == 5 and said == b"lrc: job: %s\n" % fault.encode(), (status, said)
         best = spent if best is None else min(best, spent)
         peak = max(peak, used.ru_maxrss * 1024)
     return best, peak
@@ -96,7 +98,9 @@ def measure(program):
         spent, _ = run(program, text, 3)
         rates[size] = len(text) / 1e6 / spent
         print("%d bytes: %.1f megabytes a second of processor time" % (len(text), rates[size]))
-    print("ratio %.2f; wc -c reads %.0f megabytes a second" % (rates[1] / rates[16], count(text)))
+    print("ratio %.2f" % (rates[1] / rates[16]))
+    spent, _ = run(program, text + b"$", 3, "bad character at %d" % len(text))
+    print("tokens alone: %.1f megabytes a second of processor time; wc -c reads %.0f" % (len(text) / 1e6 / spent, count(text)))
     text = worst(4 * MEBI)
     _, peak = run(program, text, 1)
     print("one-byte tokens: %.0f bytes of memory a byte of text (%d bytes)" % (peak / len(text), len(text)))
