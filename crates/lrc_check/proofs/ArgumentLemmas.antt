@@ -1,5 +1,6 @@
 -- What is found of arguments, one by one.
 use Rattle.std.proofs.Common.{◌≡◌, ℕ, zero, suc, ◌+◌, ◌<◌, ◌≤◌, ◌≢◌, Bool, true, false, ◌&&◌, List, [], ◌∷◌, map, flat_map, length, drop, get_or, slice_get, Some, Ok, Err, refl, sym, ap, ◌∙◌, arith, add-one, nat_eq}
+use Rattle.std.proofs.lemmas.Bool.{eqb-true}
 use Rattle.std.proofs.lemmas.Bool.Decides.{nat_tests}
 use Rattle.std.proofs.lemmas.Grind.{common_steps}
 use Rattle.lrc_base.specs.declared.raw.RawKind.{RawKind}
@@ -28,9 +29,6 @@ other_number found (x ∷ args) [] h = refl
 other_number found (x ∷ args) (kid ∷ kids) h =
     rw (other_number found args kids (λ e. h (ap suc e))) (and_false (is_right (found x).kind kid.kind))
 
-same_number : (m n : ℕ) → nat_eq m n ≡ true → m ≡ n
-same_number m n e = grind (arith, nat_tests)
-
 another_number : (m n : ℕ) → nat_eq m n ≡ false → m ≢ n
 another_number m n e = grind (arith, nat_tests)
 
@@ -42,7 +40,7 @@ first_arguments found args kids false same other =
 
 pub no_arguments_yet : (found : RawExpr → Found) (args : List RawExpr) (kids : List RawKid) → ArgumentsBefore found args kids 0 (nat_eq (length args) (length kids))
 no_arguments_yet found args kids =
-    first_arguments found args kids (nat_eq (length args) (length kids)) (same_number (length args) (length kids)) (another_number (length args) (length kids))
+    first_arguments found args kids (nat_eq (length args) (length kids)) (eqb-true (length args) (length kids)) (another_number (length args) (length kids))
 
 next_faults : (found : RawExpr → Found) (args : List RawExpr) (i : ℕ) (x : RawExpr) → i < length args → x ≡ get_or args i x →
     verdict (faults_of (map found (drop i args))) ≡ and_then (verdict (found x).faults) (verdict (faults_of (map found (drop (i + 1) args))))

@@ -1,8 +1,8 @@
 -- The grammar that is written keeps the limits of counts that the writing keeps.
-use Rattle.std.proofs.Common.{◌≡◌, ℕ, zero, suc, ◌≤◌, ◌+◌, Bool, true, false, ◌&&◌, IsTrue, List, [], ◌∷◌, All, map, flat_map, length, count_by, Option, Some, None, option_map, option_and_then, refl, sym, ap, ◌∙◌, subst, arith}
+use Rattle.std.proofs.Common.{◌≡◌, ℕ, zero, suc, ◌≤◌, ◌+◌, Bool, true, IsTrue, List, [], ◌∷◌, All, map, flat_map, length, count_by, Option, Some, None, option_map, option_and_then, refl, sym, ap, ◌∙◌, subst, arith}
 use Rattle.std.specs.Prelude.{cond}
 use Rattle.std.specs.List.{list_all}
-use Rattle.std.proofs.lemmas.Bool.{le-leb}
+use Rattle.std.proofs.lemmas.Bool.{le-leb, and_from}
 use Rattle.std.proofs.lemmas.List.{length-map}
 use Rattle.std.proofs.lemmas.List.Recursion.{is_count_by}
 use Rattle.lrc_base.specs.declared.grammar.Attr.{Attr}
@@ -22,10 +22,6 @@ use Rattle.lrc_meaning.specs.Limits.{KeepsLimits, is_declaration}
 use Rattle.lrc_meaning.specs.Naming.{each_some, sort_number, named_attr, named_sort, named_kid, named_extra, named_extras, named_equations, named_pattern, called_occurrences, named_with, named_production, named_grammar}
 use Rattle.lrc_grammar.specs.Limits.{has_few_attributes, has_few_parts, keeps_limits}
 
-both : (a b : Bool) → a ≡ true → b ≡ true → (a && b) ≡ true
-both true b e f = f
-both false b e f = absurd (cc)
-
 -- ---- what a list gives has its length, and each passes where what it is given from does
 
 longer : {B : Type 0} (n : ℕ) (o : Option B) (r : Option (List B)) (ys : List B) → ((zs : List B) → r ≡ Some zs → length zs ≡ n) →
@@ -41,7 +37,7 @@ as_many (o ∷ os) ys h = longer (length os) o (each_some os) ys (λ zs k. as_ma
 first_then : {B : Type 0} (t : B → Bool) (o : Option B) (r : Option (List B)) (ys : List B) → ((y : B) → o ≡ Some y → t y ≡ true) → ((zs : List B) → r ≡ Some zs → list_all t zs ≡ true) →
     option_and_then (λ (a : B). option_map (λ (as' : List B). a ∷ as') r) o ≡ Some ys → list_all t ys ≡ true
 first_then {B} t (Some y) (Some zs) ys p q h =
-    let same : y ∷ zs ≡ ys = cc in subst (λ (l : List B). list_all t l ≡ true) same (both _ _ (p y refl) (q zs refl))
+    let same : y ∷ zs ≡ ys = cc in subst (λ (l : List B). list_all t l ≡ true) same (and_from _ _ (p y refl) (q zs refl))
 first_then t (Some y) None ys p q h = absurd (cc)
 first_then t None r ys p q h = absurd (cc)
 
@@ -112,7 +108,7 @@ few_parts g sorts p few y h =
         let some_extras = ap length parts.1 ∙ m extras refl in
         let few_kids = few.0 in
         let few_extras = few.1 in
-        both _ _ (le-leb (length y.kids) 8 (omega arith)) (le-leb (length y.extras) 16 (omega arith))
+        and_from _ _ (le-leb (length y.kids) 8 (omega arith)) (le-leb (length y.extras) 16 (omega arith))
     by (Some left) (Some kids) None n m e = absurd (cc)
     by (Some left) None xs n m e = absurd (cc)
     by None ks xs n m e = absurd (cc)
@@ -127,10 +123,10 @@ numbered raw few sorts h prods k start =
     let many_prods = as_many (map (named_production raw sorts) raw.prods) prods k ∙ length-map raw.prods (named_production raw sorts) in
     let few_sorts = few.sorts in
     let few_prods = few.prods in
-    both _ _
-    (both _ _ (le-leb (length sorts) 64 (omega arith))
+    and_from _ _
+    (and_from _ _ (le-leb (length sorts) 64 (omega arith))
     (each_passes (named_sort raw.sorts) (λ (s : RawSort). length s.attrs ≤ 16) has_few_attributes (few_attributes raw.sorts) raw.sorts few.attrs sorts h))
-    (both _ _ (le-leb (length prods) 256 (omega arith))
+    (and_from _ _ (le-leb (length prods) 256 (omega arith))
     (each_passes (named_production raw sorts) (λ (p : RawProd). (length p.kids ≤ 8) × (count_by is_declaration p.items ≤ 16)) has_few_parts (few_parts raw sorts) raw.prods
     (λ i d l. (few.kids i d l, few.locals i d l)) prods k))
 

@@ -1,5 +1,6 @@
 -- The equations that are missing, part by part.
-use Rattle.std.proofs.Common.{◌≡◌, List, [], ◌∷◌, ◌++◌, map, flat_map, append_assoc, Ok, refl, sym, ap, ◌∙◌}
+use Rattle.std.proofs.Common.{◌≡◌, List, [], ◌++◌, map, flat_map, append_assoc, Ok, sym, ap, ◌∙◌}
+use Rattle.std.proofs.lemmas.List.Folds.{flat_map-map}
 use Rattle.lrc_base.specs.declared.raw.RawAttr.{RawAttr}
 use Rattle.lrc_base.specs.declared.raw.RawSort.{RawSort}
 use Rattle.lrc_base.specs.declared.raw.RawKid.{RawKid}
@@ -10,10 +11,6 @@ use Rattle.lrc_check.specs.declared.declared.Declared.{Declared}
 use Rattle.lrc_check.specs.Declares.{declaration}
 use Rattle.lrc_check.specs.Verdict.{verdict, name_faults}
 use Rattle.lrc_check.proofs.ListLemmas.{and_then, verdict_append}
-
-flat_mapped : {A B : Type 0} (f : B → List Fault) (h : A → B) (xs : List A) → flat_map f (map h xs) ≡ flat_map (λ x. f (h x)) xs
-flat_mapped f h [] = refl
-flat_mapped f h (x ∷ xs) = ap (λ fs. f (h x) ++ fs) (flat_mapped f h xs)
 
 pub behind_right : (fs gs : List Fault) → Ok tt ≡ verdict fs → verdict (fs ++ gs) ≡ verdict gs
 behind_right fs gs e = verdict_append fs gs ∙ ap (λ v. and_then v (verdict gs)) (sym e)
@@ -34,7 +31,7 @@ missing_declared sorts some all p q left kids declared first same again of_left 
     ∙ ap (λ ks. verdict (flat_map (missing_of_kid sorts p) ks)) (of_kids ∙ ap (λ (r : RawProd). r.kids) again))) in
     ap (λ ss. verdict (flat_map (λ (d : Declared). missing_of_declared ss q (declaration d)) declared)) same
     ∙ (ap (λ r. verdict (flat_map (λ (d : Declared). missing_of_declared sorts r (declaration d)) declared)) again
-    ∙ (ap verdict (sym (flat_mapped (missing_of_declared sorts p) declaration declared))
+    ∙ (ap verdict (sym (flat_map-map (missing_of_declared sorts p) declaration declared))
     ∙ (ap (λ ds. verdict (flat_map (missing_of_declared sorts p) ds)) of_items
     ∙ sym (behind_right (flat_map (missing_of_left p) (attrs_named sorts p.left)) (flat_map (missing_of_kid sorts p) p.kids ++ of_declared) here
     ∙ behind_right (flat_map (missing_of_kid sorts p) p.kids) of_declared below))))

@@ -10,10 +10,11 @@ use Rattle.lrc_base.specs.declared.job.RawScript.{RawScript}
 use Rattle.lrc_meaning.specs.Tree.{Tree, kind_of}
 use Rattle.lrc_meaning.specs.Grammar.{Grammar}
 use Rattle.lrc_meaning.specs.Editing.{Change, put}
+use Rattle.lrc_meaning.proofs.KindLemmas.{own_kind, one_kind}
 use Rattle.lrc_resolve.specs.declared.fault.TermFault.{TermFault}
 use Rattle.lrc_resolve.specs.Resolved.{and_then, map_ok, is_of_kind, resolved}
 use Rattle.lrc_resolve.specs.Laws.{NamesFitting}
-use Rattle.lrc_resolve.proofs.LawLemmas.{found_fits, fitting_is_found, one_kind, same_as_itself}
+use Rattle.lrc_resolve.proofs.LawLemmas.{found_fits, fitting_is_found}
 use Rattle.lrc_job.specs.declared.fault.AcceptFault.{AcceptFault}
 use Rattle.lrc_job.specs.declared.fault.AcceptFault.TheVariants as fault
 use Rattle.lrc_job.specs.Job.{Session, next, term_at, put_of, change_of, changes_of, of_start, session_of}
@@ -80,7 +81,7 @@ module _ (g : Grammar) (s : ℕ) (script : RawScript) where
       let found = fitting_is_found g.prods script.tree t (k.Sort g.start) are in
       ap (λ r. and_then (of_start g s) (term_at s 0 r)) found.0
       ∙ (ap (λ o. cond (is_of_kind (k.Sort g.start) o) (Ok t) (Err (fault.NotStart s))) found.1
-      ∙ ap (λ b. cond b (Ok t) (Err (fault.NotStart s))) (same_as_itself (k.Sort g.start)))
+      ∙ ap (λ b. cond b (Ok t) (Err (fault.NotStart s))) (own_kind (k.Sort g.start)))
 
   pub found_is_session : (a : Session) → session_of g s script ≡ Ok a → IsSessionOf g script a
   found_is_session a h =

@@ -12,6 +12,7 @@ use Rattle.lrc_base.specs.declared.grammar.Kind.TheVariants as k
 use Rattle.lrc_base.specs.declared.grammar.Production.{Production}
 use Rattle.lrc_meaning.specs.Tree.{Tree, int, bool, name, node, Trees}
 use Rattle.lrc_meaning.specs.Grammar.{Grammar, attrs_of_sort}
+use Rattle.lrc_meaning.proofs.KindLemmas.{left_kind}
 use Rattle.lrc_order.specs.declared.Partition.{Partition}
 use Rattle.lrc_sequence.specs.declared.Action.{Action}
 use Rattle.lrc_sequence.specs.declared.Action.TheVariants as a
@@ -32,7 +33,7 @@ use Rattle.lrc_laws.proofs.FuelLemmas.{mapped, bound_by, where_true}
 use Rattle.lrc_laws.proofs.HeldLemmas.{Agree, holding_agrees, IsMade}
 use Rattle.lrc_laws.proofs.ReadLemmas.{step_reads}
 use Rattle.lrc_laws.proofs.NodeLemmas.{Face, list_of_row, asked, Answers, ServesOne, Serves, AllMade}
-use Rattle.lrc_laws.proofs.PartLemmas.{node_of_kind, left_kind}
+use Rattle.lrc_laws.proofs.PartLemmas.{node_of_kind}
 use Rattle.lrc_laws.proofs.DecoratedLemmas.{sort_same}
 use Rattle.lrc_laws.proofs.AlikeLemmas.{AreVisited, attr_of_visit, bound_gained}
 use Rattle.lrc_laws.proofs.FreshLemmas.{gained_once, segment_fresh, ready_needs, walk_makes, made_on}

@@ -14,6 +14,7 @@ use Rattle.lrc_meaning.specs.Tree.{Tree, int, bool, name, node, Trees, none, mor
 use Rattle.lrc_meaning.specs.Grammar.{Grammar, attrs_of_sort, attrs_of, symbol_occurrence, extra_occurrences, is_known}
 use Rattle.lrc_meaning.specs.Attribution.{Decorated, at_node, Parts, end, symbol, bare, bare_kids, attributes_of, production_of, kid_values, extra_values, occurrence_values, leaf_at, kids_agree, extras_agree, Holds, IsRight, AreRight, height, highest}
 use Rattle.lrc_meaning.specs.Attribution as m
+use Rattle.lrc_meaning.proofs.KindLemmas.{left_kind}
 use Rattle.lrc_order.specs.declared.Place.{Place}
 use Rattle.lrc_order.specs.declared.Partition.{Partition}
 use Rattle.lrc_order.specs.Needs.{symbol_of, kid_symbols, extra_symbols, kid_count, extra_count}
@@ -26,7 +27,7 @@ use Rattle.std.proofs.lemmas.Simd.{map-map}
 use Rattle.lrc_laws.proofs.FuelLemmas.{mapped, where_true}
 use Rattle.lrc_laws.proofs.HeldLemmas.{IsMade}
 use Rattle.lrc_laws.proofs.NodeLemmas.{ServesOne, symbol_face, call_asks}
-use Rattle.lrc_laws.proofs.PartLemmas.{left_kind, node_of_kind, leaf_kid, extra_plain, extra_attached}
+use Rattle.lrc_laws.proofs.PartLemmas.{node_of_kind, leaf_kid, extra_plain, extra_attached}
 use Rattle.lrc_laws.proofs.UniqueLemmas.{fronts_same}
 use Rattle.lrc_laws.proofs.BackLemmas.{AreWhole}
 

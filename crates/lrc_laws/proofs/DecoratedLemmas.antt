@@ -16,6 +16,8 @@ use Rattle.lrc_meaning.specs.Expression.{expression, value_of}
 use Rattle.lrc_meaning.specs.Grammar.{Grammar, attrs_of_sort, attrs_of, occurrences_of, own_occurrence, symbol_occurrence, extra_occurrences, is_well_formed}
 use Rattle.lrc_meaning.specs.Attribution.{Decorated, at_node, Parts, end, symbol, bare, bare_kids, attributes_of, production_of, kid_values, extra_values, occurrence_values, leaf_at, kids_agree, extras_agree, Holds, IsNodeRight, IsRight, AreRight, height, highest}
 use Rattle.lrc_meaning.specs.Attribution as m
+use Rattle.lrc_meaning.proofs.KindLemmas.{left_kind}
+use Rattle.lrc_meaning.proofs.ListLemmas.{slice_left, slice_right}
 use Rattle.lrc_order.specs.declared.Place.{Place}
 use Rattle.lrc_order.specs.declared.Partition.{Partition}
 use Rattle.lrc_order.specs.Needs.{symbols_of, kid_symbols, extra_symbols, own_end, kids_end, left_place}
@@ -33,8 +35,7 @@ use Rattle.lrc_laws.proofs.FuelLemmas.{max_left, max_right}
 use Rattle.lrc_laws.proofs.HeldLemmas.{IsMade}
 use Rattle.lrc_laws.proofs.ReadLemmas.{found_there, value_same}
 use Rattle.lrc_laws.proofs.NodeLemmas.{IsProper, Serves, own_face, symbol_face, AllMade, AreAlike, serves_alike, visit_made, node_serves}
-use Rattle.lrc_laws.proofs.PartLemmas.{symbols_in, symbols_right, symbols_low, left_kind, bare_of_kind, kids_of_kinds, leaf_same, symbol_trees_are, kid_symbol, extra_symbol, kid_counts, extra_counts}
-use Rattle.lrc_plan.proofs.ApartLemmas.{slice_left, slice_right}
+use Rattle.lrc_laws.proofs.PartLemmas.{symbols_in, symbols_right, symbols_low, bare_of_kind, kids_of_kinds, leaf_same, symbol_trees_are, kid_symbol, extra_symbol, kid_counts, extra_counts}
 use Rattle.lrc_laws.proofs.FormedLemmas.{equation_there}
 
 pub sort_same : (s r : ℕ) → k.Sort s ≡ k.Sort r → s ≡ r

@@ -8,6 +8,7 @@ use Rattle.lrc_base.specs.declared.grammar.Production.{Production}
 use Rattle.lrc_meaning.specs.Tree.{Tree, node, is_left}
 use Rattle.lrc_meaning.specs.Grammar.{Grammar, attrs_of_sort, is_well_formed}
 use Rattle.lrc_meaning.specs.Attribution.{Decorated, at_node, Parts, bare, bare_kids, production_of, occurrence_values, IsNodeRight, IsRight, AreRight, height, highest}
+use Rattle.lrc_meaning.proofs.KindLemmas.{left_kind}
 use Rattle.lrc_order.specs.declared.Partition.{Partition}
 use Rattle.lrc_sequence.specs.declared.Action.{Action}
 use Rattle.lrc_sequence.specs.declared.Action.TheVariants as a
@@ -22,7 +23,7 @@ use Rattle.lrc_laws.proofs.FuelLemmas.{mapped, where_true, max_left, max_right}
 use Rattle.lrc_laws.proofs.HeldLemmas.{Agree, IsMade}
 use Rattle.lrc_laws.proofs.ReadLemmas.{step_reads}
 use Rattle.lrc_laws.proofs.NodeLemmas.{asked, Serves, own_face, symbol_face, AllMade, AreAlike, same_asked, start_agrees, call_asks}
-use Rattle.lrc_laws.proofs.PartLemmas.{symbols_in, symbols_right, symbols_low, left_kind}
+use Rattle.lrc_laws.proofs.PartLemmas.{symbols_in, symbols_right, symbols_low}
 use Rattle.lrc_laws.proofs.DecoratedLemmas.{face_of, node_held, held_proper, IsSymbol, symbol_is, node_made, own_alike, right_serves, serves, AreSound, sort_same, bounds_of}
 use Rattle.lrc_laws.proofs.BackLemmas.{Served, served_visit}
 use Rattle.lrc_laws.proofs.MetLemmas.{met_reads, greatest, walk_meets}

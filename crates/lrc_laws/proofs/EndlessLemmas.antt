@@ -10,8 +10,8 @@ use Rattle.lrc_meaning.specs.Tree.{Tree, int}
 use Rattle.lrc_meaning.specs.Attribution.{Decorated, at_node, Parts, end, value, symbol, bare, kid_values, extra_values, kids_agree, extras_agree, IsNodeRight, IsRight, AreRight, Attributes}
 use Rattle.lrc_meaning.specs.Examples.{production, equals}
 use Rattle.lrc_meaning.proofs.ExpressionLemmas.{expression_equations}
+use Rattle.lrc_meaning.proofs.ListLemmas.{slice_right}
 use Rattle.lrc_visit_meaning.specs.Examples.{endless, loop, one}
-use Rattle.lrc_plan.proofs.ApartLemmas.{slice_right}
 
 abbrev attached : Extra
 attached = record { name = codes "a"; attached = true; kind = k.Sort 0 }

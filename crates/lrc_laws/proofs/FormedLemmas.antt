@@ -1,8 +1,8 @@
 -- What a well-formed grammar says of its productions.
-use Rattle.std.proofs.Common.{◌≡◌, ℕ, zero, suc, ◌+◌, ◌<◌, ◌≤◌, Bool, true, false, not, ◌&&◌, ◌||◌, ◌==◌, IsTrue, cond, List, [], ◌∷◌, length, Option, Some, None, slice_get, refl, sym, ap, ◌∙◌, arith}
+use Rattle.std.proofs.Common.{◌≡◌, ℕ, zero, suc, ◌+◌, ◌≤◌, Bool, true, false, not, ◌&&◌, ◌||◌, ◌==◌, IsTrue, cond, List, [], ◌∷◌, length, Option, Some, None, slice_get, refl, sym, ap, ◌∙◌, arith}
 use Rattle.std.specs.Prelude.{nat_eq}
 use Rattle.std.specs.Option.{option_map_or}
-use Rattle.std.specs.List.{list_all, find, count_by, range_with_len}
+use Rattle.std.specs.List.{list_all, find, count_by}
 use Rattle.std.proofs.lemmas.Bool.{and_parts, false≢true, cond-true, eqb-true}
 use Rattle.std.proofs.lemmas.Option.{none-some, slice_get_within}
 use Rattle.std.proofs.lemmas.List.Sums.{sum_by-cons}
@@ -11,20 +11,9 @@ use Rattle.lrc_base.specs.declared.grammar.Production.{Production}
 use Rattle.lrc_meaning.specs.Expression.{expression}
 use Rattle.lrc_meaning.specs.Tree.{same_kind}
 use Rattle.lrc_meaning.specs.Grammar.{Grammar, Occurrence, occurrences_of, expression_kind, is_equation_right, is_defined_once, is_production_right, is_well_formed}
+use Rattle.lrc_meaning.proofs.ListLemmas.{list_all-at, list_all-range}
 use Rattle.lrc_sequence.specs.Sequences.{is_defined}
 use Rattle.lrc_visit_meaning.specs.Visits.{equation_of}
-
-pub list_all-at : {X : Type 0} (p : X → Bool) (xs : List X) (i : ℕ) (x : X) → list_all p xs ≡ true → slice_get xs i ≡ Some x → p x ≡ true
-list_all-at p [] i x h e = absurd (none-some x e)
-list_all-at p (y ∷ ys) zero x h e = let s : y ≡ x = cc in ap p (sym s) ∙ (and_parts (p y) (list_all p ys) h).0
-list_all-at p (y ∷ ys) (suc i) x h e = list_all-at p ys i x (and_parts (p y) (list_all p ys) h).1 e
-
-list_all-range : (p : ℕ → Bool) (a n i j : ℕ) → list_all p (range_with_len a n) ≡ true → i < n → j ≡ a + i → p j ≡ true
-list_all-range p a zero i j h l e = absurd (omega arith)
-list_all-range p a (suc n) zero j h l e =
-    let s : j ≡ a = omega arith in ap p s ∙ (and_parts (p a) (list_all p (range_with_len (a + 1) n)) h).0
-list_all-range p a (suc n) (suc i) j h l e =
-    list_all-range p (a + 1) n i j (and_parts (p a) (list_all p (range_with_len (a + 1) n)) h).1 (omega arith) (omega arith)
 
 module _ {X : Type 0} (p : X → Bool) where
   count_by-step : (x : X) (xs : List X) (n : ℕ) → count_by p (x ∷ xs) ≡ n → cond (p x) 1 0 + count_by p xs ≡ n

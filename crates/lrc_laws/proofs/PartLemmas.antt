@@ -2,7 +2,7 @@
 use Rattle.std.proofs.Common.{◌≡◌, ℕ, zero, suc, ◌+◌, ◌<◌, ◌≤◌, max, true, false, not, ◌&&◌, IsTrue, cond, List, [], ◌∷◌, ◌++◌, map, length, get_or, Contains, Option, Some, None, inl, inr, slice_get, refl, sym, ap, ◌∙◌, subst, arith, append_assoc, length-append}
 use Rattle.std.specs.Prelude.{flat_map, slice_index_or}
 use Rattle.std.specs.Option.{option_map, option_map_or}
-use Rattle.std.proofs.lemmas.Bool.{and_parts, and_from, false≢true, not-true, eqb-true}
+use Rattle.std.proofs.lemmas.Bool.{and_parts, and_from, false≢true, not-true}
 use Rattle.std.proofs.lemmas.Option.{none-some, same_Some}
 use Rattle.std.proofs.lemmas.List.{length-map, get_or_append_left, get_or-append-add}
 use Rattle.lrc_base.specs.declared.grammar.Kind.{Kind}
@@ -13,6 +13,7 @@ use Rattle.lrc_base.specs.declared.grammar.Production.{Production}
 use Rattle.lrc_meaning.specs.Tree.{Tree, int, bool, name, node, Trees, is_sort, same_kind, is_left, fits}
 use Rattle.lrc_meaning.specs.Grammar.{Grammar, attrs_of_sort, attrs_of, symbol_occurrence, extra_occurrences}
 use Rattle.lrc_meaning.specs.Attribution.{Decorated, at_node, Parts, end, value, symbol, bare, bare_kids, attributes_of, production_of, kid_values, extra_values, leaf_at, kids_agree, extras_agree, IsRight, AreRight, height, highest}
+use Rattle.lrc_meaning.proofs.KindLemmas.{left_kind}
 use Rattle.lrc_order.specs.declared.Place.{Place}
 use Rattle.lrc_order.specs.Needs.{symbol_of, kid_symbols, extra_symbols}
 use Rattle.lrc_visit_meaning.specs.Values.{no_tree}
@@ -40,21 +41,6 @@ symbols_low (symbol e rest) d c =
       | inl same ↦ subst (λ x. height x ≤ max (height e) (highest rest)) same (max_left (height e) (highest rest))
       | inr later ↦ let low = symbols_low rest d later in let up = max_right (height e) (highest rest) in omega (arith, low, up)
     ]
-
--- a kind that a production's trees are of is its left sort
-pub left_kind : (prods : List Production) (n : ℕ) (kind : Kind) → IsTrue (is_left prods n kind) → (q : Production) × (slice_get prods n ≡ Some q) × (k.Sort q.left ≡ kind)
-left_kind prods n kind h = over (slice_get prods n) refl kind h
-  where
-    sort_is : (s : ℕ) (kind : Kind) → IsTrue (same_kind (k.Sort s) kind) → k.Sort s ≡ kind
-    sort_is s k.Int h = absurd (false≢true h)
-    sort_is s k.Bool h = absurd (false≢true h)
-    sort_is s k.Name h = absurd (false≢true h)
-    sort_is s (k.Sort r) h = ap k.Sort (eqb-true s r h)
-
-    over : (o : Option Production) → slice_get prods n ≡ o → (kind : Kind) → IsTrue (option_map_or (λ (q : Production). same_kind (k.Sort q.left) kind) o false)
-        → (q : Production) × (slice_get prods n ≡ Some q) × (k.Sort q.left ≡ kind)
-    over None is kind h = absurd (false≢true h)
-    over (Some q) is kind h = (q, is, sort_is q.left kind h)
 
 pub of_kind_over : (kind : Kind) (o : Option Production)
     → option_map_or (λ x. same_kind x kind) (option_map (λ (q : Production). k.Sort q.left) o) false ≡ option_map_or (λ (q : Production). same_kind (k.Sort q.left) kind) o false

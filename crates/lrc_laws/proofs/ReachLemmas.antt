@@ -15,6 +15,7 @@ use Rattle.lrc_meaning.specs.Expression.{expression}
 use Rattle.lrc_meaning.specs.Grammar.{Grammar, extra_occurrences, is_well_formed}
 use Rattle.lrc_meaning.specs.Attribution.{Decorated, at_node, Parts, end, symbol, bare, bare_kids, production_of, occurrence_values, leaf_at, extras_agree, IsNodeRight, IsRight, AreRight, height, highest}
 use Rattle.lrc_meaning.specs.Attribution as m
+use Rattle.lrc_meaning.proofs.KindLemmas.{left_kind}
 use Rattle.lrc_order.specs.declared.Partition.{Partition}
 use Rattle.lrc_order.specs.Needs.{symbol_of, extra_symbols, symbols_of, own_end, kids_end, kid_symbols}
 use Rattle.lrc_sequence.specs.declared.Action.{Action}
@@ -29,7 +30,7 @@ use Rattle.lrc_order.proofs.MemberLemmas.{member_first, member_later, member_cas
 use Rattle.lrc_laws.proofs.FuelLemmas.{max_left, max_right}
 use Rattle.lrc_laws.proofs.ReadLemmas.{found_there}
 use Rattle.lrc_laws.proofs.NodeLemmas.{asked}
-use Rattle.lrc_laws.proofs.PartLemmas.{symbols_in, left_kind, bare_of_kind, leaf_same, kid_counts}
+use Rattle.lrc_laws.proofs.PartLemmas.{symbols_in, bare_of_kind, leaf_same, kid_counts}
 use Rattle.lrc_laws.proofs.FormedLemmas.{equation_there, one_equation, find_one, target_defined}
 use Rattle.lrc_laws.proofs.DecoratedLemmas.{face_of, node_held, IsSymbol, symbol_is, values_are, AreSound, sort_same}
 use Rattle.lrc_laws.proofs.MetLemmas.{built_same}

@@ -3,7 +3,7 @@ use Rattle.std.proofs.Common.{◌≡◌, ℕ, zero, suc, ◌+◌, ◌-◌, ◌<�
 use Rattle.std.specs.Prelude.{filter, slice_index_or}
 use Rattle.std.specs.Option.{option_map_or}
 use Rattle.std.specs.List.{range_with_len}
-use Rattle.std.proofs.lemmas.Bool.{cases_lt, true≢false, and_from, eq-eqb}
+use Rattle.std.proofs.lemmas.Bool.{cases_lt, true≢false, and_from, eq-eqb, and_left}
 use Rattle.std.proofs.lemmas.Option.{none-some, same_Some, slice_get-get_or, get_or_from_slice_get, slice_get_within}
 use Rattle.std.proofs.lemmas.List.{nil_from_length}
 use Rattle.std.proofs.lemmas.List.FromFn.{fill_by_all, length-range_with_len}
@@ -13,6 +13,7 @@ use Rattle.lrc_base.specs.declared.grammar.Production.{Production}
 use Rattle.lrc_meaning.specs.Tree.{Tree, is_left, fits}
 use Rattle.lrc_meaning.specs.Grammar.{Grammar, attrs_of_sort, is_well_formed}
 use Rattle.lrc_meaning.specs.Attribution.{Decorated, bare, attributes_of, production_of, IsAttribution, height, synthesised, Attributes}
+use Rattle.lrc_meaning.proofs.KindLemmas.{left_kind}
 use Rattle.lrc_order.specs.Ordered.{IsGivenThere, Partitions, ArePartitions}
 use Rattle.lrc_sequence.specs.Items.{is_of, visit_of, visits_of, attrs_of_visit}
 use Rattle.lrc_sequence.specs.Sound.{IsSound}
@@ -23,7 +24,7 @@ use Rattle.lrc_visit_meaning.specs.Demand.{Met, demand, reach}
 use Rattle.lrc_laws.proofs.ReachLemmas.{demand_reach}
 use Rattle.lrc_laws.proofs.FuelLemmas.{visit_same, none_below, max_left, max_right}
 use Rattle.lrc_laws.proofs.NodeLemmas.{Face, asked, Serves, ServesOne}
-use Rattle.lrc_laws.proofs.PartLemmas.{left_kind, bare_of_kind, fits_of_kind, attributes_count}
+use Rattle.lrc_laws.proofs.PartLemmas.{bare_of_kind, fits_of_kind, attributes_count}
 use Rattle.lrc_laws.proofs.DecoratedLemmas.{AreSound, face_of, serves, sort_same}
 use Rattle.lrc_laws.proofs.UniqueLemmas.{unique}
 use Rattle.lrc_laws.proofs.BackLemmas.{IsWhole, plain_whole}
@@ -58,9 +59,6 @@ synthesised_all (a ∷ attrs) (v ∷ vs) l h =
     ap (λ b. cond b (synthesised attrs vs) (v ∷ synthesised attrs vs)) (h 0 a refl)
     ∙ ap (λ ws. v ∷ ws) (synthesised_all attrs vs (omega arith) (λ x. h (suc x)))
 
-false_and : (p q : Bool) → p ≡ false → (p && q) ≡ false
-false_and p q e = ap (λ b. b && q) e
-
 module _ (g : Grammar) (found : Partitions) (plan : HasSoundPlan g found) where
   abbrev start_attrs : List Attr
   start_attrs = attrs_of_sort g.sorts g.start
@@ -84,7 +82,7 @@ module _ (g : Grammar) (found : Partitions) (plan : HasSoundPlan g found) where
       filter_none (λ x. is_of start_attrs true x && (visit_of found.sorts g.start x == v)) 0 (length start_attrs)
       (λ x low high.
       let attr = plain_at x (omega arith) in
-      false_and (is_of start_attrs true x) (visit_of found.sorts g.start x == v) (ap (λ o. option_map_or (λ (attr : Attr). attr.inherited) o false) attr.1 ∙ attr.2))
+      and_left (is_of start_attrs true x) (visit_of found.sorts g.start x == v) (ap (λ o. option_map_or (λ (attr : Attr). attr.inherited) o false) attr.1 ∙ attr.2))
 
   all_given : attrs_of_visit g.sorts found.sorts false g.start 1 ≡ range_with_len 0 (length start_attrs)
   all_given =

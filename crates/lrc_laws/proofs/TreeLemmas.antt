@@ -2,7 +2,7 @@
 use Rattle.std.proofs.Common.{◌≡◌, ℕ, zero, suc, ◌+◌, ◌<◌, ◌≤◌, Bool, true, false, not, ◌&&◌, ◌||◌, ◌==◌, IsTrue, cond, List, [], ◌∷◌, ◌++◌, map, length, Option, Some, None, slice_get, refl, sym, ap, ◌∙◌, subst, arith, length-append}
 use Rattle.std.specs.Prelude.{flat_map, slice_index_or, nat_lt}
 use Rattle.std.specs.Option.{option_map_or, option_and_then}
-use Rattle.std.specs.List.{range_with_len, list_all, AllByRecursion}
+use Rattle.std.specs.List.{range_with_len, list_all}
 use Rattle.std.proofs.lemmas.Bool.{false≢true, and_parts, eq-eqb, ltb-true}
 use Rattle.std.proofs.lemmas.Option.{none-some, same_Some, slice_get-get_or, slice_get_within, get_or_from_slice_get}
 use Rattle.std.proofs.lemmas.List.{length-map, get_or_append_left, get_or-append-add}
@@ -18,6 +18,8 @@ use Rattle.lrc_meaning.specs.Tree.{Tree, int, bool, name, node, Trees, is_sort, 
 use Rattle.lrc_meaning.specs.Expression.{expression, value_of}
 use Rattle.lrc_meaning.specs.Grammar.{Grammar, attrs_of_sort, attrs_of, own_occurrence, symbol_occurrence, extra_occurrences, occurrences_of, is_known, is_well_formed}
 use Rattle.lrc_meaning.specs.Attribution.{Decorated, at_node, bare, attributes_of, production_of, kid_values, extra_values, occurrence_values, leaf_at, Holds, IsNodeRight, IsRight, height}
+use Rattle.lrc_meaning.proofs.KindLemmas.{left_kind}
+use Rattle.lrc_meaning.proofs.ListLemmas.{all_from_places}
 use Rattle.lrc_order.specs.declared.Place.{Place}
 use Rattle.lrc_order.specs.declared.Partition.{Partition}
 use Rattle.lrc_order.specs.Needs.{symbol_of, kid_symbols, extra_symbols, symbols_of, left_place, own_end, kids_end, kid_count, extra_count}
@@ -31,16 +33,12 @@ use Rattle.lrc_order.proofs.MemberLemmas.{member_of_range}
 use Rattle.lrc_plan.proofs.ListLemmas.{map_agree}
 use Rattle.lrc_laws.proofs.ReadLemmas.{value_same}
 use Rattle.lrc_laws.proofs.NodeLemmas.{Face, Serves, ServesOne, symbol_face}
-use Rattle.lrc_laws.proofs.PartLemmas.{left_kind, node_of_kind, leaf_same}
+use Rattle.lrc_laws.proofs.PartLemmas.{node_of_kind, leaf_same}
 use Rattle.lrc_laws.proofs.FormedLemmas.{production_right, one_equation, find_one, target_defined, defined_over}
 use Rattle.lrc_laws.proofs.DecoratedLemmas.{AreSound, sort_same}
 use Rattle.lrc_laws.proofs.AlikeLemmas.{AreVisited}
 use Rattle.lrc_laws.proofs.BackLemmas.{plain_whole, node_holds, node_all_made, node_shows, served_visit}
 use Rattle.lrc_laws.proofs.BuildLemmas.{AreSome, IsBuilt, BuiltKids, BuiltExtras, build_kids, build_extras, made_served, made_evaluated, range_split, range_shift}
-
-pub all_from_places : {X : Type 0} (P : X → Type 0) (xs : List X) → ((i : ℕ) (x : X) → slice_get xs i ≡ Some x → P x) → AllByRecursion P xs
-all_from_places P [] h = tt
-all_from_places P (x ∷ xs) h = (h 0 x refl, all_from_places P xs (λ i. h (suc i)))
 
 known_sort : (sorts : List Sort) (kind : Kind) (s : ℕ) → kind ≡ k.Sort s → is_known sorts kind ≡ true → s < length sorts
 known_sort sorts kind s e h = ltb-true s (length sorts) (ap (is_known sorts) (sym e) ∙ h)

@@ -1,3 +1,5 @@
 pub mod TreeLemmas
 pub mod ExpressionLemmas
 pub mod ExampleLemmas
+pub mod ListLemmas
+pub mod KindLemmas

@@ -7,6 +7,7 @@ use Rattle.std.specs.List.{list_any, list_all, range_with_len}
 use Rattle.std.proofs.lemmas.Bool.{and_parts, or_parts, or_left, or_right, not-true, not-false, not_from_true, both_ways, false_from_ne_true}
 use Rattle.std.proofs.lemmas.Bool.Decides.{Decides-eqb}
 use Rattle.std.proofs.lemmas.List.Folds.{list_any-append}
+use Rattle.std.proofs.lemmas.List.Concat.{flat_map-append}
 use Rattle.lrc_base.specs.declared.grammar.Sort.{Sort}
 use Rattle.lrc_base.specs.declared.grammar.Equation.{Equation}
 use Rattle.lrc_base.specs.declared.grammar.Production.{Production}
@@ -32,7 +33,7 @@ use Rattle.lrc_named.proofs.Places.{Place, own_place, symbol_place, value_place,
 use Rattle.lrc_named.proofs.Meanings.{alone, of_symbol, alone_place, find_alone, lefts, rights}
 use Rattle.lrc_named.proofs.Occurrences.{Stands, stand, all_called, occurrence_at}
 use Rattle.lrc_named.proofs.Distinct.{one_target, number_is, places_apart}
-use Rattle.lrc_named.proofs.Equations.{RawEquation, raw_equations, flat_map_both, names, named_raw, RightAt, DefinesLeft, means_declared}
+use Rattle.lrc_named.proofs.Equations.{RawEquation, raw_equations, names, named_raw, RightAt, DefinesLeft, means_declared}
 
 -- ---- targets that are defined once
 
@@ -48,7 +49,7 @@ one_target_each (item.Pattern pieces) = tt
 
 has_more : (b : List RawItem) (i : RawItem) (t : Target) → has_target (b ++ i ∷ []) t ≡ (has_target b t || list_any (same_target t) (target_of i))
 has_more b i t =
-    ap (list_any (same_target t)) (flat_map_both target_of b (i ∷ []) ∙ ap (λ l. flat_map target_of b ++ l) (append-nil (target_of i)))
+    ap (list_any (same_target t)) (flat_map-append target_of b (i ∷ []) ∙ ap (λ l. flat_map target_of b ++ l) (append-nil (target_of i)))
     ∙ list_any-append (same_target t) (flat_map target_of b) (target_of i)
 
 abbrev OnceMore : Target → List RawItem → List Target → Type 0
@@ -326,7 +327,7 @@ module _ (g : RawGrammar) (sorts : List Sort) (named : Each (Names (named_sort g
   -- the one equation of a place is that of this item, so nothing else declares or targets it
   alone_at : (z : Place) (t : Target) (b : List RawItem) (i : RawItem) (rest : List RawItem) → b ++ i ∷ rest ≡ p.items → target_of i ≡ t ∷ [] → is_at t z ≡ true → tally (hits z) raw_all ≡ 1 → (has_target b t ≡ false) × (tally (declared_hits z) all_declared ≡ 0)
   alone_at z t b i rest w e at one =
-      let split : targets ≡ flat_map target_of b ++ t ∷ flat_map target_of rest = ap (flat_map target_of) (sym w) ∙ (flat_map_both target_of b (i ∷ rest) ∙ ap (λ l. flat_map target_of b ++ (l ++ flat_map target_of rest)) e) in
+      let split : targets ≡ flat_map target_of b ++ t ∷ flat_map target_of rest = ap (flat_map target_of) (sym w) ∙ (flat_map-append target_of b (i ∷ rest) ∙ ap (λ l. flat_map target_of b ++ (l ++ flat_map target_of rest)) e) in
       let parts : tally (target_hits z) targets ≡ tally (target_hits z) (flat_map target_of b) + (cond (is_at t z) 1 0 + tally (target_hits z) (flat_map target_of rest)) = ap (tally (target_hits z)) split ∙ tally-append (target_hits z) (flat_map target_of b) (t ∷ flat_map target_of rest) in
       let here : ◌≡◌ {A = ℕ} (cond (is_at t z) 1 0) 1 = ap (λ c. cond c 1 0) at in
       let sum = all_hits z in
@@ -365,7 +366,7 @@ module _ (g : RawGrammar) (sorts : List Sort) (named : Each (Names (named_sort g
       by None None None e h = absurd (cc)
 
   pub once_item : Every IsOnce all_places → Every RightEquation raw_all → (b : List RawItem) (i : RawItem) (rest : List RawItem) → b ++ i ∷ rest ≡ p.items → IsNewTarget b i × DefinesLeft g sorts named p P head prods made i
-  once_item once right b i rest w = by i w (every_parts RightEquation (raw_equations i) (flat_map raw_equations rest) ((every_parts RightEquation (flat_map raw_equations b) (flat_map raw_equations (i ∷ rest)) (subst (λ l. Every RightEquation l) (ap (flat_map raw_equations) (sym w) ∙ flat_map_both raw_equations b (i ∷ rest)) right)).1)).0
+  once_item once right b i rest w = by i w (every_parts RightEquation (raw_equations i) (flat_map raw_equations rest) ((every_parts RightEquation (flat_map raw_equations b) (flat_map raw_equations (i ∷ rest)) (subst (λ l. Every RightEquation l) (ap (flat_map raw_equations) (sym w) ∙ flat_map-append raw_equations b (i ∷ rest)) right)).1)).0
     where
       by : (i : RawItem) → b ++ i ∷ rest ≡ p.items → Every RightEquation (raw_equations i) → IsNewTarget b i × DefinesLeft g sorts named p P head prods made i
       by (item.Local n kind x) w h = (tt, tt)

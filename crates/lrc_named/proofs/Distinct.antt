@@ -6,6 +6,7 @@ use Rattle.std.specs.List.{list_any}
 use Rattle.std.proofs.lemmas.Bool.{and_parts, or_parts, or_left, or_right, not-true, false_from_ne_true, both_ways}
 use Rattle.std.proofs.lemmas.Bool.Decides.{Decides-eqb}
 use Rattle.std.proofs.lemmas.List.Folds.{list_any-append}
+use Rattle.std.proofs.lemmas.List.Concat.{flat_map_single}
 use Rattle.lrc_base.specs.declared.raw.RawKind.{RawKind}
 use Rattle.lrc_base.specs.declared.raw.RawKind.TheVariants as rk
 use Rattle.lrc_base.specs.declared.raw.RawAttr.{RawAttr}
@@ -16,7 +17,7 @@ use Rattle.lrc_meaning.specs.Grammar.{all_distinct}
 use Rattle.lrc_meaning.specs.Naming.{same_owner}
 use Rattle.lrc_faults.specs.Faults.{Name, is_among, attrs_named, attrs_of_kind, attr_names, kid_names, Declared, local, attached, declared_name, Target, same_target}
 use Rattle.lrc_named.proofs.Lists.{number, Every, every_from, every_both, every_of_all}
-use Rattle.lrc_named.proofs.Names.{same_name, own_name, names_swap, flat_map_single}
+use Rattle.lrc_named.proofs.Names.{same_name, own_name, names_swap}
 use Rattle.lrc_named.proofs.Sorts.{AreDistinct}
 use Rattle.lrc_named.proofs.Heads.{attrs_distinct, declared_in, own_names}
 use Rattle.lrc_named.proofs.Places.{Place, own_place, symbol_place, kid_places, declared_places, places_of, is_at, target_at, Apart, HeadAmong, apart_both, heads_among, apart_flat}

@@ -1,12 +1,11 @@
 -- An equation has no fault exactly where it is named, defines what is to be defined, and has the kind of its target.
-use Rattle.std.proofs.Common.{◌≡◌, ℕ, Bool, true, false, not, ◌&&◌, cond, List, [], ◌∷◌, ◌++◌, map, flat_map, find, Option, Some, None, bytes_eq, refl, sym, ap, ◌∙◌, subst, append_assoc}
+use Rattle.std.proofs.Common.{◌≡◌, ℕ, Bool, true, false, not, ◌&&◌, cond, List, [], ◌∷◌, ◌++◌, map, flat_map, find, Option, Some, None, bytes_eq, refl, sym, ap, ◌∙◌, subst}
 use Rattle.std.specs.Prelude.{option_map, option_and_then, ⊤}
 use Rattle.std.specs.Option.{option_map_or}
 use Rattle.std.specs.List.{list_any}
 use Rattle.std.proofs.lemmas.Bool.{and_parts, not-true, not-false, not_from_true, both_ways, or_left, or_right}
-use Rattle.std.proofs.lemmas.Bool.Decides.{Decides-eqb}
+use Rattle.std.proofs.lemmas.List.Concat.{flat_map-append}
 use Rattle.lrc_base.specs.declared.grammar.Kind.{Kind}
-use Rattle.lrc_base.specs.declared.grammar.Kind.TheVariants as k
 use Rattle.lrc_base.specs.declared.grammar.Sort.{Sort}
 use Rattle.lrc_base.specs.declared.grammar.Equation.{Equation}
 use Rattle.lrc_base.specs.declared.grammar.Production.{Production}
@@ -24,6 +23,7 @@ use Rattle.lrc_meaning.specs.Tree.{same_kind}
 use Rattle.lrc_meaning.specs.Grammar.{Occurrence, occurrences_of, is_equation_right, all_distinct}
 use Rattle.lrc_meaning.specs.Expression.{Expression, expression}
 use Rattle.lrc_meaning.specs.Naming.{Known, named_kind, named_sort, named_expr, named_target, named_equation, pattern_of}
+use Rattle.lrc_meaning.proofs.KindLemmas.{own_kind, one_kind}
 use Rattle.lrc_faults.specs.Faults.{Name, Fault, fault, fault_of, not_normal, wrong_kind, double_equation, where_true, attr_in_sort, attrs_named, Declared, local, attached, declared_by, declared_name, Means, nothing, left_attr, leaf, symbol, value, tree, means, left_or_other, kid_or_declared, declared_means, symbol_sort, is_nothing, Found, same_kind as same_raw_kind, kind_agrees, expr_faults, found_of, Target, target_of, target_fault, has_target, equation_faults, own_equation, attr_equation, symbol_equation, piece_faults, item_faults}
 use Rattle.lrc_named.proofs.Lists.{number, Every, Each, Names, FoundAt, absent, there, empty_parts, empty_both, none_where, where_none}
 use Rattle.lrc_named.proofs.Names.{own_name, called, distinct_parts}
@@ -46,35 +46,7 @@ raw_equations (item.Own n x) = record { target = alone n; expr = x } ∷ []
 raw_equations (item.OfKid c n x) = record { target = of_symbol c n; expr = x } ∷ []
 raw_equations (item.Pattern pieces) = []
 
-pub own_kind : (u : Kind) → same_kind u u ≡ true
-own_kind k.Int = refl
-own_kind k.Bool = refl
-own_kind k.Name = refl
-own_kind (k.Sort s) = (Decides-eqb s s).1 refl
-
-pub one_kind : (u w : Kind) → same_kind u w ≡ true → u ≡ w
-one_kind k.Int k.Int h = refl
-one_kind k.Int k.Bool h = absurd (cc)
-one_kind k.Int k.Name h = absurd (cc)
-one_kind k.Int (k.Sort s) h = absurd (cc)
-one_kind k.Bool k.Int h = absurd (cc)
-one_kind k.Bool k.Bool h = refl
-one_kind k.Bool k.Name h = absurd (cc)
-one_kind k.Bool (k.Sort s) h = absurd (cc)
-one_kind k.Name k.Int h = absurd (cc)
-one_kind k.Name k.Bool h = absurd (cc)
-one_kind k.Name k.Name h = refl
-one_kind k.Name (k.Sort s) h = absurd (cc)
-one_kind (k.Sort r) k.Int h = absurd (cc)
-one_kind (k.Sort r) k.Bool h = absurd (cc)
-one_kind (k.Sort r) k.Name h = absurd (cc)
-one_kind (k.Sort r) (k.Sort s) h = ap k.Sort ((Decides-eqb r s).0 h)
-
 -- ---- what a declared name means
-
-pub flat_map_both : {A B : Type 0} (f : A → List B) (xs ys : List A) → flat_map f (xs ++ ys) ≡ flat_map f xs ++ flat_map f ys
-flat_map_both f [] ys = refl
-flat_map_both f (x ∷ xs) ys = ap (λ l. f x ++ l) (flat_map_both f xs ys) ∙ sym (append_assoc (f x) (flat_map f xs) (flat_map f ys))
 
 among_later : (q : Name → Bool) (front : List Declared) (d : Declared) (rest : List Declared) → q (declared_name d) ≡ true → list_any q (map declared_name (front ++ d ∷ rest)) ≡ true
 among_later q [] d rest h = or_left (q (declared_name d)) (list_any q (map declared_name rest)) h
@@ -92,7 +64,7 @@ find_declared (x ∷ front) d rest h = by (bytes_eq (declared_name x) (declared_
     by false is later = later
 
 declared_split : (b : List RawItem) (i : RawItem) (rest : List RawItem) (d : Declared) → declared_by i ≡ d ∷ [] → declared_in (b ++ i ∷ rest) ≡ declared_in b ++ d ∷ declared_in rest
-declared_split b i rest d e = flat_map_both declared_by b (i ∷ rest) ∙ ap (λ l. declared_in b ++ (l ++ declared_in rest)) e
+declared_split b i rest d e = flat_map-append declared_by b (i ∷ rest) ∙ ap (λ l. declared_in b ++ (l ++ declared_in rest)) e
 
 module _ (g : RawGrammar) (sorts : List Sort) (named : Each (Names (named_sort g.sorts)) g.sorts sorts) (p : RawProd) (P : Production) (head : Head g.sorts p P.left P.kids P.extras) (prods : List Production) (made : Each (λ q Q. Head g.sorts q Q.left Q.kids Q.extras) g.prods prods) where
   abbrev pub places : List Place

@@ -4,6 +4,7 @@ use Rattle.std.specs.Prelude.{option_map, option_and_then}
 use Rattle.std.specs.Option.{option_or}
 use Rattle.std.proofs.lemmas.Bool.{or_parts}
 use Rattle.std.proofs.lemmas.List.Folds.{find-append, list_any-append}
+use Rattle.std.proofs.lemmas.List.Concat.{flat_map_single}
 use Rattle.lrc_base.specs.declared.raw.RawKind.{RawKind}
 use Rattle.lrc_base.specs.declared.raw.RawKind.TheVariants as rk
 use Rattle.lrc_base.specs.declared.raw.RawAttr.{RawAttr}
@@ -13,7 +14,7 @@ use Rattle.lrc_base.specs.declared.raw.RawProd.{RawProd}
 use Rattle.lrc_meaning.specs.Grammar.{all_distinct}
 use Rattle.lrc_faults.specs.Faults.{Name, is_among, attrs_named, attrs_of_kind, attr_names, kid_names, attr_in_sort, Declared, local, attached, declared_name, Means, nothing, left_attr, leaf, symbol, value, tree, means, left_or_other, kid_or_declared, kid_means, declared_means, symbol_sort, Target}
 use Rattle.lrc_named.proofs.Lists.{Every}
-use Rattle.lrc_named.proofs.Names.{own_name, Parted, distinct_parts, flat_map_single, called, name_among, name_absent}
+use Rattle.lrc_named.proofs.Names.{own_name, Parted, distinct_parts, called, name_among, name_absent}
 use Rattle.lrc_named.proofs.Heads.{declared_in, own_names}
 use Rattle.lrc_named.proofs.Places.{Place, own_place, symbol_place, value_place, kid_places, declared_places, places_of, is_at, head_of, head_at, found_in, find_flat}
 

@@ -5,6 +5,7 @@ use Rattle.std.specs.List.{list_any}
 use Rattle.std.specs.Cmp.Lexicographic.{bytes_decides}
 use Rattle.std.proofs.lemmas.Bool.{cases_Bool, and_parts, and_from, and_left, and_right, or_parts, or_from, or_left, or_right, not-true, not_from_true, not_from_false}
 use Rattle.std.proofs.lemmas.List.Folds.{list_any-append}
+use Rattle.std.proofs.lemmas.List.Concat.{flat_map_single}
 use Rattle.lrc_meaning.specs.Grammar.{all_distinct}
 use Rattle.lrc_faults.specs.Faults.{Name, is_among}
 use Rattle.lrc_named.proofs.Lists.{After, after_from}
@@ -66,10 +67,6 @@ module _ {A : Type 0} (front : List Name) (names : A → List Name) where
   after_fresh before (x ∷ xs) h =
       let parts = fresh_parts (front ++ flat_map names before) (names x) (flat_map names xs) h in
       (parts.0, after_fresh (before ++ x ∷ []) xs (subst (λ l. fresh l (flat_map names xs) ≡ true) (names_pushed before x) parts.1))
-
-pub flat_map_single : {A B : Type 0} (f : A → B) (xs : List A) → flat_map (λ x. f x ∷ []) xs ≡ map f xs
-flat_map_single f [] = refl
-flat_map_single f (x ∷ xs) = ap (λ l. f x ∷ l) (flat_map_single f xs)
 
 -- ---- over a whole list
 

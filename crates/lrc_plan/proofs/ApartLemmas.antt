@@ -15,6 +15,7 @@ use Rattle.lrc_base.specs.declared.grammar.Extra.{Extra}
 use Rattle.lrc_base.specs.declared.grammar.Sort.{Sort}
 use Rattle.lrc_base.specs.declared.grammar.Production.{Production}
 use Rattle.lrc_meaning.specs.Grammar.{Grammar, Occurrence, attrs_of_sort, attrs_of, own_occurrence, symbol_occurrence, extra_occurrences, occurrences_of}
+use Rattle.lrc_meaning.proofs.ListLemmas.{slice_left, slice_right}
 use Rattle.lrc_order.specs.declared.Place.{Place}
 use Rattle.lrc_order.specs.declared.Partition.{Partition}
 use Rattle.lrc_order.specs.Needs.{symbol_of, kid_symbols, extra_symbols, own_end, kids_end, kid_count, extra_count, symbols_of, left_place}
@@ -28,16 +29,6 @@ use Rattle.lrc_sequence.specs.Bindings.{gained}
 use Rattle.lrc_order.proofs.MemberLemmas.{member_cases, no_member, member_of_map, member_of_flat, member_of_filter, member_of_range}
 use Rattle.lrc_plan.proofs.DistinctLemmas.{Distinct}
 use Rattle.lrc_plan.proofs.OnceLemmas.{join_distinct, distinct_map, distinct_filter, distinct_range, distinct_flat, pairs_of_distinct, IsVisitOf, action_cases, segment_once, segments_apart, segment_actions}
-
-pub slice_left : {X : Type 0} (xs ys : List X) (i : ℕ) → i < length xs → slice_get (xs ++ ys) i ≡ slice_get xs i
-slice_left [] ys i h = absurd (omega arith)
-slice_left (x ∷ xs) ys zero h = refl
-slice_left (x ∷ xs) ys (suc i) h = slice_left xs ys i (omega arith)
-
-pub slice_right : {X : Type 0} (xs ys : List X) (i j : ℕ) → i ≡ length xs + j → slice_get (xs ++ ys) i ≡ slice_get ys j
-slice_right [] ys i j e = let k : i ≡ j = omega arith in ap (slice_get ys) k
-slice_right (x ∷ xs) ys zero j e = absurd (omega arith)
-slice_right (x ∷ xs) ys (suc i) j e = slice_right xs ys i j (omega arith)
 
 attr_told : (o : Option Attr) (inherited : Bool) → option_map_or (λ (attr : Attr). cond inherited attr.inherited (not attr.inherited)) o false ≡ true
     → (attr : Attr) × (o ≡ Some attr) × (attr.inherited ≡ inherited)

@@ -3,7 +3,7 @@ use Rattle.std.proofs.Common.{◌≡◌, ℕ, zero, suc, ◌+◌, ◌-◌, ◌<�
 use Rattle.std.specs.Prelude.{filter, flat_map}
 use Rattle.std.specs.Option.{option_map_or}
 use Rattle.std.specs.List.{range_with_len, list_any, IsDistinct, AllByRecursion}
-use Rattle.std.proofs.lemmas.Bool.{cases_lt, true≢false, ne_eqb, eqb-true}
+use Rattle.std.proofs.lemmas.Bool.{cases_lt, true≢false, ne_eqb, eqb-true, true_from_ne_false}
 use Rattle.std.proofs.Math.Dec.{eqb}
 use Rattle.std.proofs.lemmas.Map.Steps.{length-le_from_distinct_below}
 use Rattle.std.proofs.lemmas.Option.{slice_get_within}
@@ -55,10 +55,6 @@ within_over n q r false xs e less h rest = rest h
 
 within_more : {n : ℕ} (q : ℕ) (xs : List ℕ) → q < n → ((r : ℕ) → list_any (eqb r) xs ≡ true → r < n) → (r : ℕ) → list_any (eqb r) (q ∷ xs) ≡ true → r < n
 within_more {n} q xs less within r h = within_over n q r (eqb r q) xs refl less h (within r)
-
-not_refuted : (c : Bool) → (c ≡ false → ⊥) → c ≡ true
-not_refuted true refuted = refl
-not_refuted false refuted = absurd (refuted refl)
 
 module _ (g : Grammar) (found : Partitions) (are : ArePartitions g found) (there : All (IsGivenThere g.sorts) found.given) where
   abbrev parts : List Partition
@@ -240,7 +236,7 @@ module _ (g : Grammar) (found : Partitions) (are : ArePartitions g found) (there
             let small = slice_get_within (attrs_of_sort g.sorts p.left) o attr is_attr in
             let less : o < total = omega arith in
             contained t.available (b.Value o)
-            (not_refuted (is_among t.available (b.Value o))
+            (true_from_ne_false (is_among t.available (b.Value o))
             (λ absent.
             trace total o o [] less absent (λ k d l. absurd (omega arith)) (tt, tt) (within_more o [] less (λ q m. absurd (true≢false (sym m)))) (omega arith) (inl refl)
             (λ q is_late reach.

@@ -28,9 +28,6 @@ pub record OfPlace (sorts : List Sort) (places : List Place) (at : ℕ) (x : Occ
   pub stands : at ≡ place.start + number
   pub is : x ≡ symbol_occurrence attr
 
-found_there : {X : Type 0} (xs : List X) (i : ℕ) (d : X) → i < length xs → slice_get xs i ≡ Some (get_or xs i d)
-found_there xs i d less = slice_get-get_or xs i d less
-
 module _ (sorts : List Sort) where
   -- the attributes of a symbol of a kind
   of_symbol : (kind : Kind) (start : ℕ) (tree : Option ℕ) (i : ℕ) (d : Occurrence) → i < length (map symbol_occurrence (attrs_of sorts kind))

@@ -1,5 +1,6 @@
 -- Terms that are resolved are named and fit a kind, and the other way round.
 use Rattle.std.proofs.Common.{◌≡◌, ℕ, zero, suc, ℤ, ◌<◌, Bool, true, false, cond, ◌&&◌, IsTrue, List, [], ◌∷◌, map, length, slice_get, nat_lt, nat_eq, Option, Some, None, Result, Ok, Err, refl, sym, ap, subst, ◌∙◌, arith}
+use Rattle.std.proofs.lemmas.Bool.{eqb-true, and_parts}
 use Rattle.std.proofs.lemmas.Bool.Decides.{nat_tests}
 use Rattle.std.specs.Prelude.{option_map, option_and_then}
 use Rattle.std.specs.Option.{option_map_or}
@@ -13,6 +14,7 @@ use Rattle.lrc_base.specs.declared.raw.RawTerm.{RawTerm, RawTerm-F, ind-RawTerm,
 use Rattle.lrc_base.specs.declared.raw.RawTerm.TheVariants as v
 use Rattle.lrc_meaning.specs.Tree.{Tree, int, bool, name, node, none, more, row, same_kind, kids_of, is_left, fits, each_fits, kind_of}
 use Rattle.lrc_meaning.specs.Naming.{each_some, production_number, named_tree}
+use Rattle.lrc_meaning.proofs.KindLemmas.{own_kind, one_kind}
 use Rattle.lrc_naming.proofs.NamingLemmas.{named_tree-Int, named_tree-Bool, named_tree-Name, named_tree-Node}
 use Rattle.lrc_resolve.specs.declared.fault.TermFault.{TermFault}
 use Rattle.lrc_resolve.specs.declared.fault.TermFault.TheVariants as fault
@@ -45,33 +47,6 @@ module _ (P : RawTerm → Type 0) where
     by_variant = ind-RawTerm P (λ x y is. subst (λ z. P (roll-RawTerm z)) is (of_layer y))
 
 -- ---- kinds, and productions by number
-
-pub same_as_itself : (kind : Kind) → same_kind kind kind ≡ true
-same_as_itself k.Int = refl
-same_as_itself k.Bool = refl
-same_as_itself k.Name = refl
-same_as_itself (k.Sort s) = grind (arith, nat_tests)
-
-pub one_kind : (a b : Kind) → same_kind a b ≡ true → a ≡ b
-one_kind k.Int k.Int e = refl
-one_kind k.Int k.Bool e = absurd (cc)
-one_kind k.Int k.Name e = absurd (cc)
-one_kind k.Int (k.Sort s) e = absurd (cc)
-one_kind k.Bool k.Int e = absurd (cc)
-one_kind k.Bool k.Bool e = refl
-one_kind k.Bool k.Name e = absurd (cc)
-one_kind k.Bool (k.Sort s) e = absurd (cc)
-one_kind k.Name k.Int e = absurd (cc)
-one_kind k.Name k.Bool e = absurd (cc)
-one_kind k.Name k.Name e = refl
-one_kind k.Name (k.Sort s) e = absurd (cc)
-one_kind (k.Sort r) k.Int e = absurd (cc)
-one_kind (k.Sort r) k.Bool e = absurd (cc)
-one_kind (k.Sort r) k.Name e = absurd (cc)
-one_kind (k.Sort r) (k.Sort s) e = let same : r ≡ s = grind (arith, nat_tests) in ap k.Sort same
-
-same_number : (m n : ℕ) → nat_eq m n ≡ true → m ≡ n
-same_number m n e = grind (arith, nat_tests)
 
 pub number_same : (m n : ℕ) → m ≡ n → nat_eq m n ≡ true
 number_same m n e = grind (arith, nat_tests)
@@ -142,7 +117,7 @@ module _ (prods : List Production) where
           let found = each_found kids every ts all in
           let left : is_left prods p (k.Sort q.left) ≡ true =
           ap (λ (o : Option Production). option_map_or (λ (r : Production). same_kind (k.Sort r.left) (k.Sort q.left)) o false) there
-          ∙ same_as_itself (k.Sort q.left) in
+          ∙ own_kind (k.Sort q.left) in
           let below = all_fit 0 ts (kids_of prods p) found.1 many like in (
             k.Sort q.left,
             ap (option_map (λ (r : Production). k.Sort r.left)) there,
@@ -165,7 +140,7 @@ module _ (prods : List Production) where
       counted : (p : ℕ) (ts : List Tree) (b : Bool) → production_number prods n ≡ Some p → each_ok (map (resolved prods) kids) ≡ Ok ts → nat_eq (length ts) (length (kids_of prods p)) ≡ b → cond b (unless_unlike n p ts (first_unlike prods 0 ts (kids_of prods p))) (Err (fault.Arity n)) ≡ Ok t →
           (kind : Kind) × (kind_of prods t ≡ Some kind) × NamesFitting prods (v.Node n kids) t kind
       counted p ts true number all many h =
-          liked p ts (first_unlike prods 0 ts (kids_of prods p)) number all (same_number (length ts) (length (kids_of prods p)) many) refl h
+          liked p ts (first_unlike prods 0 ts (kids_of prods p)) number all (eqb-true (length ts) (length (kids_of prods p)) many) refl h
       counted p ts false number all many h = absurd (cc)
 
       by : (o : Option ℕ) → production_number prods n ≡ o → (r : Result (List Tree) TermFault) → each_ok (map (resolved prods) kids) ≡ r → and_then (node_of prods n o) r ≡ Ok t →
@@ -189,10 +164,6 @@ module _ (prods : List Production) where
       node_found
 
 -- ---- what is named and fits is found
-
-both_true : (a b : Bool) → (a && b) ≡ true → (a ≡ true) × (b ≡ true)
-both_true true b e = (refl, e)
-both_true false b e = absurd (cc)
 
 module _ (prods : List Production) where
   abbrev pub Fitting : RawTerm → Type 0
@@ -218,7 +189,7 @@ module _ (prods : List Production) where
       here : ((us : List Tree) (ks : List Kid) → each_some (map (named_tree prods) kids) ≡ Some us → each_fits prods (row us) ks ≡ true → EachFound kids us (suc i) ks) → (u : Tree) (us : List Tree) (ks : List Kid) → named_tree prods x ≡ Some u → each_some (map (named_tree prods) kids) ≡ Some us → each_fits prods (more u (row us)) ks ≡ true → EachFound (x ∷ kids) (u ∷ us) i ks
       here again u us [] first rest g = absurd (cc)
       here again u us (kid ∷ ks) first rest g =
-          let both = both_true (fits prods u kid.kind) (each_fits prods (row us) ks) g in
+          let both = and_parts (fits prods u kid.kind) (each_fits prods (row us) ks) g in
           let head = every.0 u kid.kind (record { named = first; fitting = both.0 }) in
           let tail = again us ks rest both.1 in
           record {
@@ -226,7 +197,7 @@ module _ (prods : List Production) where
                 ∙ ap (map_ok (λ as'. u ∷ as')) tail.all;
             many = ap suc tail.many;
             like = ap (λ o. cond (is_of_kind kid.kind o) (first_unlike prods (suc i) us ks) (Some i)) head.1
-                ∙ (ap (λ b. cond b (first_unlike prods (suc i) us ks) (Some i)) (same_as_itself kid.kind) ∙ tail.like);
+                ∙ (ap (λ b. cond b (first_unlike prods (suc i) us ks) (Some i)) (own_kind kid.kind) ∙ tail.like);
           }
 
       by : ((us : List Tree) (ks : List Kid) → each_some (map (named_tree prods) kids) ≡ Some us → each_fits prods (row us) ks ≡ true → EachFound kids us (suc i) ks) → (o : Option Tree) → named_tree prods x ≡ o → (os : Option (List Tree)) → each_some (map (named_tree prods) kids) ≡ os → option_and_then (λ a. option_map (λ as'. a ∷ as') os) o ≡ Some ts → EachFound (x ∷ kids) ts i needed
@@ -243,7 +214,7 @@ module _ (prods : List Production) where
       made : (p : ℕ) (ts : List Tree) (q : Production) → production_number prods n ≡ Some p → each_some (map (named_tree prods) kids) ≡ Some ts → slice_get prods p ≡ Some q → fits prods (node p (row ts)) kind ≡ true →
           (resolved prods (v.Node n kids) ≡ Ok (node p (row ts))) × (kind_of prods (node p (row ts)) ≡ Some kind)
       made p ts q number all there fitting =
-          let both = both_true (is_left prods p kind) (each_fits prods (row ts) (kids_of prods p)) fitting in
+          let both = and_parts (is_left prods p kind) (each_fits prods (row ts) (kids_of prods p)) fitting in
           let left : same_kind (k.Sort q.left) kind ≡ true =
           ap (λ (o : Option Production). option_map_or (λ (r : Production). same_kind (k.Sort r.left) kind) o false) (sym there) ∙ both.0 in
           let found = each_fitting kids every ts 0 (kids_of prods p) all both.1 in (

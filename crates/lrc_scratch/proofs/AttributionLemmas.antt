@@ -17,9 +17,11 @@ use Rattle.lrc_meaning.specs.Expression.{expression, value_of}
 use Rattle.lrc_meaning.specs.Grammar.{Grammar, attrs_of_sort, is_well_formed}
 use Rattle.lrc_meaning.specs.Plain.{is_plain, is_plain_attr}
 use Rattle.lrc_meaning.specs.Attribution.{Parts, end, kid_values, occurrence_values, leaf_at, extras_agree, Holds, IsNodeRight, AreRight, IsAttribution, highest, synthesised, Attributes}
+use Rattle.lrc_meaning.proofs.KindLemmas.{left_kind}
+use Rattle.lrc_meaning.proofs.ListLemmas.{slice_left, slice_right, all_from_places}
 use Rattle.lrc_scratch.specs.Sums.{sum_of, first_sums, values_at, values_below, is_summable}
-use Rattle.lrc_scratch.proofs.ListLemmas.{some_of, slice_get-left, slice_get-right, find-one, all_from_places}
-use Rattle.lrc_scratch.proofs.GrammarLemmas.{is_left-kind, IsPlainRight, is_plain_right, equation_at, one_equation, attrs_of_sort-plain}
+use Rattle.lrc_scratch.proofs.ListLemmas.{some_of, find-one}
+use Rattle.lrc_scratch.proofs.GrammarLemmas.{IsPlainRight, is_plain_right, equation_at, one_equation, attrs_of_sort-plain}
 use Rattle.lrc_scratch.proofs.ValueLemmas.{values_at-node, length-first_sums, length-values_at, equation_sum_there}
 use Rattle.lrc_scratch.proofs.DecorationLemmas.{trees_of, part, decorated, parts, bare_parts, highest_parts, max_zero, kid_values_parts, leaf_at_parts, parts_agree, sum_is_value, first_sums-at}
 
@@ -56,7 +58,7 @@ module _ (sorts : List Sort) (prods : List Production) (q : Production) (right :
   equation_value values count e n s =
       sum_is_value (occurrence_values values (parts sorts prods kids) end) (leaf_at (parts sorts prods kids)) own symbols kids
       (λ i m l h.
-      slice_get-right values (kid_values (parts sorts prods kids) ++ []) i (i - own) (subst (λ w. i ≡ w + (i - own)) (sym count) (omega arith))
+      slice_right values (kid_values (parts sorts prods kids) ++ []) i (i - own) (subst (λ w. i ≡ w + (i - own)) (sym count) (omega arith))
       ∙ ap (λ xs. slice_get xs (i - own)) (append-nil (kid_values (parts sorts prods kids)) ∙ kid_values_parts sorts prods kids)
       ∙ slice_get-map (λ (v : ℤ). int v) symbols (i - own) ∙ ap (option_map (λ (v : ℤ). int v)) h)
       (leaf_at_parts sorts prods kids)
@@ -88,7 +90,7 @@ module _ (g : Grammar) (summable : IsTrue (is_summable g.sorts g.prods)) where
             record {
               given = int s.0;
               of_target =
-                  slice_get-left (trees_of (values_at g.sorts g.prods (node p kids))) (kid_values (parts g.sorts g.prods kids) ++ []) d.target
+                  slice_left (trees_of (values_at g.sorts g.prods (node p kids))) (kid_values (parts g.sorts g.prods kids) ++ []) d.target
                   (subst (λ w. d.target < w) (sym count) (equation_at g.sorts g.prods q right j d h).0)
                   ∙ slice_get-map (λ (v : ℤ). int v) (values_at g.sorts g.prods (node p kids)) d.target
                   ∙ ap (option_map (λ (v : ℤ). int v))
@@ -104,7 +106,7 @@ module _ (g : Grammar) (summable : IsTrue (is_summable g.sorts g.prods)) where
     part_right (name n) kind rest f h = h
     part_right (node p kids) kind rest f h =
         let both = and_parts (is_left g.prods p kind) (each_fits g.prods kids (kids_of g.prods p)) f in
-        let q = is_left-kind g.prods p kind both.0 in
+        let q = left_kind g.prods p kind both.0 in
         let kids_fit : IsTrue (each_fits g.prods kids q.0.kids) =
         subst (λ d. IsTrue (each_fits g.prods kids d)) (ap (λ o. option_map_or (λ (q : Production). q.kids) o []) q.1) both.1 in
         ((record { production = q.0; is_there = q.1; is_right = node_right p kids q.0 q.1 kids_fit }, parts_right kids q.0.kids kids_fit, tt), h)

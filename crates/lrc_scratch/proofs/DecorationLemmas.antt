@@ -15,9 +15,9 @@ use Rattle.lrc_base.specs.declared.grammar.Sort.{Sort}
 use Rattle.lrc_meaning.specs.Tree.{Tree, int, bool, name, node, Trees, none, more, is_sort, is_left, kids_of, fits, each_fits, tree_height, tallest}
 use Rattle.lrc_meaning.specs.Expression.{Expression, literal, occurrence, leaf, binary, choice, make, int_in, operated, value_of}
 use Rattle.lrc_meaning.specs.Attribution.{Decorated, at_node, Parts, end, value, symbol, bare_kids, kid_values, leaf_at, kids_agree, highest}
+use Rattle.lrc_meaning.proofs.KindLemmas.{one_kind}
+use Rattle.lrc_meaning.proofs.ListLemmas.{slice_left, slice_right}
 use Rattle.lrc_scratch.specs.Sums.{int_at, added, sum_of, attribute_sum, first_sums, values_at, values_below}
-use Rattle.lrc_scratch.proofs.ListLemmas.{slice_get-left, slice_get-right}
-use Rattle.lrc_scratch.proofs.GrammarLemmas.{same_kind-same}
 use Rattle.lrc_scratch.proofs.ValueLemmas.{length-first_sums}
 
 abbrev pub trees_of : List ℤ → List Tree
@@ -107,11 +107,11 @@ module _ (sorts : List Sort) (prods : List Production) where
   part_agrees : (t : Tree) (rest : Parts) (kid : Kid) (declared : List Kid) → IsTrue (fits prods t kid.kind) → IsTrue (kids_agree prods declared rest)
       → IsTrue (kids_agree prods (kid ∷ declared) (part t (decorated t) rest))
   part_agrees (int i) rest kid declared f h =
-      and_from _ _ (and_from _ _ (leaf_kind k.Int kid.kind refl (same_kind-same k.Int kid.kind f)) f) h
+      and_from _ _ (and_from _ _ (leaf_kind k.Int kid.kind refl (one_kind k.Int kid.kind f)) f) h
   part_agrees (bool b) rest kid declared f h =
-      and_from _ _ (and_from _ _ (leaf_kind k.Bool kid.kind refl (same_kind-same k.Bool kid.kind f)) f) h
+      and_from _ _ (and_from _ _ (leaf_kind k.Bool kid.kind refl (one_kind k.Bool kid.kind f)) f) h
   part_agrees (name n) rest kid declared f h =
-      and_from _ _ (and_from _ _ (leaf_kind k.Name kid.kind refl (same_kind-same k.Name kid.kind f)) f) h
+      and_from _ _ (and_from _ _ (leaf_kind k.Name kid.kind refl (one_kind k.Name kid.kind f)) f) h
   part_agrees (node p kids) rest kid declared f h =
       and_from _ _ (and_parts (is_left prods p kid.kind) (each_fits prods kids (kids_of prods p)) f).0 h
 
@@ -170,11 +170,11 @@ first_sums-at q own symbols kids (suc m) n v l e =
     over : (n < m) ⊎ (m ≤ n) → (n < m → attribute_sum q own symbols kids n ≡ Some v → slice_get (first_sums q own symbols kids m) n ≡ Some v)
         → slice_get (first_sums q own symbols kids (suc m)) n ≡ Some v
     over (inl s) f =
-        slice_get-left (first_sums q own symbols kids m) (unwrap_or (attribute_sum q own symbols kids m) (pos 0) ∷ []) n
+        slice_left (first_sums q own symbols kids m) (unwrap_or (attribute_sum q own symbols kids m) (pos 0) ∷ []) n
         (subst (λ w. n < w) (sym (length-first_sums q own symbols kids m)) s)
         ∙ f s e
     over (inr s) f =
         let same : n ≡ m = omega arith in
-        slice_get-right (first_sums q own symbols kids m) (unwrap_or (attribute_sum q own symbols kids m) (pos 0) ∷ []) n 0
+        slice_right (first_sums q own symbols kids m) (unwrap_or (attribute_sum q own symbols kids m) (pos 0) ∷ []) n 0
         (subst (λ w. n ≡ w + 0) (sym (length-first_sums q own symbols kids m)) (omega arith))
         ∙ ap (λ o. Some (unwrap_or o (pos 0))) (ap (attribute_sum q own symbols kids) (sym same) ∙ e)

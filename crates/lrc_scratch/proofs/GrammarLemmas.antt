@@ -14,40 +14,14 @@ use Rattle.lrc_base.specs.declared.grammar.Sort.{Sort}
 use Rattle.lrc_base.specs.declared.grammar.Kid.{Kid}
 use Rattle.lrc_base.specs.declared.grammar.Equation.{Equation}
 use Rattle.lrc_base.specs.declared.grammar.Production.{Production}
-use Rattle.lrc_meaning.specs.Tree.{same_kind, is_left}
+use Rattle.lrc_meaning.specs.Tree.{same_kind}
 use Rattle.lrc_meaning.specs.Expression.{expression}
 use Rattle.lrc_meaning.specs.Grammar.{attrs_of_sort, attrs_of, Occurrence, own_occurrence, symbol_occurrence, extra_occurrences, occurrences_of, read_kind, expression_kind, is_equation_right, is_defined_once, is_production_right}
 use Rattle.lrc_meaning.specs.Plain.{is_sum, is_plain_attr, has_none, is_plain_production}
+use Rattle.lrc_meaning.proofs.KindLemmas.{one_kind}
+use Rattle.lrc_meaning.proofs.ListLemmas.{slice_left, slice_right, list_all-at, list_all-range}
 use Rattle.lrc_scratch.specs.Sums.{is_summable}
-use Rattle.lrc_scratch.proofs.ListLemmas.{some_of, slice_get-there, slice_get-left, slice_get-right, list_all-slice_get, list_all-range}
-
-pub same_kind-same : (a b : Kind) → same_kind a b ≡ true → a ≡ b
-same_kind-same k.Int k.Int h = refl
-same_kind-same k.Int k.Bool h = absurd (false≢true h)
-same_kind-same k.Int k.Name h = absurd (false≢true h)
-same_kind-same k.Int (k.Sort s) h = absurd (false≢true h)
-same_kind-same k.Bool k.Int h = absurd (false≢true h)
-same_kind-same k.Bool k.Bool h = refl
-same_kind-same k.Bool k.Name h = absurd (false≢true h)
-same_kind-same k.Bool (k.Sort s) h = absurd (false≢true h)
-same_kind-same k.Name k.Int h = absurd (false≢true h)
-same_kind-same k.Name k.Bool h = absurd (false≢true h)
-same_kind-same k.Name k.Name h = refl
-same_kind-same k.Name (k.Sort s) h = absurd (false≢true h)
-same_kind-same (k.Sort r) k.Int h = absurd (false≢true h)
-same_kind-same (k.Sort r) k.Bool h = absurd (false≢true h)
-same_kind-same (k.Sort r) k.Name h = absurd (false≢true h)
-same_kind-same (k.Sort r) (k.Sort s) h = ap k.Sort (eqb-true r s h)
-
-left_over : (o : Option Production) (kind : Kind) → IsTrue (option_map_or (λ (q : Production). same_kind (k.Sort q.left) kind) o false)
-    → (q : Production) × (o ≡ Some q) × (k.Sort q.left ≡ kind)
-left_over None kind h = absurd (false≢true h)
-left_over (Some q) kind h = (q, refl, same_kind-same (k.Sort q.left) kind h)
-
--- a tree of a kind has a production whose left side is that kind's sort
-pub is_left-kind : (prods : List Production) (p : ℕ) (kind : Kind) → IsTrue (is_left prods p kind)
-    → (q : Production) × (slice_get prods p ≡ Some q) × (k.Sort q.left ≡ kind)
-is_left-kind prods p kind h = left_over (slice_get prods p) kind h
+use Rattle.lrc_scratch.proofs.ListLemmas.{some_of, slice_get-there}
 
 plain_over : (o : Option Sort) → ((s : Sort) → o ≡ Some s → list_all is_plain_attr s.attrs ≡ true) → list_all is_plain_attr (option_map_or (λ (s : Sort). s.attrs) o []) ≡ true
 plain_over None f = refl
@@ -57,7 +31,7 @@ plain_over (Some s) f = f s refl
 module _ (sorts : List Sort) (plain : list_all (λ (s : Sort). list_all is_plain_attr s.attrs) sorts ≡ true) where
   pub attrs_of_sort-plain : (s : ℕ) → list_all is_plain_attr (attrs_of_sort sorts s) ≡ true
   attrs_of_sort-plain s =
-      plain_over (slice_get sorts s) (λ t e. list_all-slice_get (λ (s : Sort). list_all is_plain_attr s.attrs) sorts s t plain e)
+      plain_over (slice_get sorts s) (λ t e. list_all-at (λ (s : Sort). list_all is_plain_attr s.attrs) sorts s t plain e)
 
   pub attrs_of-plain : (kind : Kind) → list_all is_plain_attr (attrs_of sorts kind) ≡ true
   attrs_of-plain k.Int = refl
@@ -96,7 +70,7 @@ pub record IsOwn (x : Occurrence) : Type 0 where
 own_is : (a : Attr) → is_plain_attr a ≡ true → IsOwn (own_occurrence a)
 own_is a h =
     let parts = and_parts (not a.inherited) (same_kind a.kind k.Int) h in
-    record { is_int = same_kind-same a.kind k.Int parts.1; is_defined = parts.0; is_unread = not-true a.inherited parts.0 }
+    record { is_int = one_kind a.kind k.Int parts.1; is_defined = parts.0; is_unread = not-true a.inherited parts.0 }
 
 -- the occurrences of a production without extras: its own, which are defined, and its symbols', which are read
 module _ (attrs : List Attr) (symbols all : List Occurrence) (is : all ≡ map own_occurrence attrs ++ symbols) (plain : list_all is_plain_attr attrs ≡ true) (undefined : list_all is_undefined symbols ≡ true) where
@@ -105,8 +79,8 @@ module _ (attrs : List Attr) (symbols all : List Occurrence) (is : all ≡ map o
       let a = some_of (slice_get attrs i) (slice_get-there attrs i l) in
       let m : i < length (map own_occurrence attrs) = subst (λ n. i < n) (sym (length-map attrs own_occurrence)) l in (
         own_occurrence a.0,
-        ap (λ xs. slice_get xs i) is ∙ slice_get-left (map own_occurrence attrs) symbols i m ∙ slice_get-map own_occurrence attrs i ∙ ap (option_map own_occurrence) a.1,
-        own_is a.0 (list_all-slice_get is_plain_attr attrs i a.0 plain a.1),
+        ap (λ xs. slice_get xs i) is ∙ slice_left (map own_occurrence attrs) symbols i m ∙ slice_get-map own_occurrence attrs i ∙ ap (option_map own_occurrence) a.1,
+        own_is a.0 (list_all-at is_plain_attr attrs i a.0 plain a.1),
       )
 
   symbol_at : (i : ℕ) (x : Occurrence) → length attrs ≤ i → slice_get all i ≡ Some x → (i - length attrs < length symbols) × (x.is_defined ≡ false)
@@ -114,9 +88,9 @@ module _ (attrs : List Attr) (symbols all : List Occurrence) (is : all ≡ map o
       let n = length-map attrs own_occurrence in
       let m : i ≡ length attrs + (i - length attrs) = omega arith in
       let e : slice_get symbols (i - length attrs) ≡ Some x =
-      sym (slice_get-right (map own_occurrence attrs) symbols i (i - length attrs) (subst (λ w. i ≡ w + (i - length attrs)) (sym n) m))
+      sym (slice_right (map own_occurrence attrs) symbols i (i - length attrs) (subst (λ w. i ≡ w + (i - length attrs)) (sym n) m))
       ∙ ap (λ xs. slice_get xs i) (sym is) ∙ h in
-      (slice_get_within symbols (i - length attrs) x e, not-true x.is_defined (list_all-slice_get is_undefined symbols (i - length attrs) x undefined e))
+      (slice_get_within symbols (i - length attrs) x e, not-true x.is_defined (list_all-at is_undefined symbols (i - length attrs) x undefined e))
 
   reads_over : (i : ℕ) (kind : Kind) → read_kind all i ≡ Some kind → (i < length attrs) ⊎ (length attrs ≤ i) → (length attrs ≤ i) × (i - length attrs < length symbols)
   reads_over i kind h (inl l) =
@@ -158,8 +132,8 @@ unfolding is_summable
 is_plain_right sorts prods h i q e =
     let parts = and_parts _ _ h in
     let plain = and_parts _ _ parts.1 in
-    let right : IsTrue (is_production_right sorts prods q) = list_all-slice_get (is_production_right sorts prods) prods i q parts.0 e in
-    let sums : IsTrue (is_plain_production q) = list_all-slice_get is_plain_production prods i q plain.1 e in
+    let right : IsTrue (is_production_right sorts prods q) = list_all-at (is_production_right sorts prods) prods i q parts.0 e in
+    let sums : IsTrue (is_plain_production q) = list_all-at is_plain_production prods i q plain.1 e in
     let six = and_parts _ _ right in
     let five = and_parts _ _ six.0 in
     let four = and_parts _ _ five.0 in
@@ -181,7 +155,7 @@ equation_over None r h = absurd (false≢true h)
 equation_over (Some x) None h = absurd (false≢true (and_parts x.is_defined false h).1)
 equation_over (Some x) (Some kind) h =
     let parts = and_parts x.is_defined (same_kind x.kind kind) h in
-    (x, refl, parts.0, ap Some (sym (same_kind-same x.kind kind parts.1)))
+    (x, refl, parts.0, ap Some (sym (one_kind x.kind kind parts.1)))
 
 once_over : (o : Option Occurrence) (n : ℕ) (x : Occurrence) → o ≡ Some x → x.is_defined ≡ true → IsTrue (option_map_or (λ (x : Occurrence). not x.is_defined || nat_eq n 1) o true) → n ≡ 1
 once_over o n x e d h =
@@ -203,7 +177,7 @@ module _ (sorts : List Sort) (prods : List Production) (q : Production) (right :
       → (e.target < length (attrs_of_sort sorts q.left)) × (expression_kind prods (occurrences_of sorts q) q.kids (expression e.expr) ≡ Some k.Int)
   equation_at j e h =
       let r = equation_over (slice_get (occurrences_of sorts q) e.target) (expression_kind prods (occurrences_of sorts q) q.kids (expression e.expr))
-      (list_all-slice_get (is_equation_right sorts prods q) q.equations j e right.equations_right h) in
+      (list_all-at (is_equation_right sorts prods q) q.equations j e right.equations_right h) in
       let d = defines (attrs_of_sort sorts q.left) (symbols_of sorts q.kids) (occurrences_of sorts q) occurrences_are
       (attrs_of_sort-plain sorts right.attrs_plain q.left) (symbols_undefined sorts right.attrs_plain q.kids) e.target r.0 r.1 r.2 in
       (d.0, r.3 ∙ ap Some d.1)

@@ -1,8 +1,8 @@
 -- Lists by place: joined lists, tests of each element, and an element that is found where it alone passes.
-use Rattle.std.proofs.Common.{◌≡◌, ℕ, zero, suc, ◌+◌, ◌<◌, ◌≤◌, Bool, true, false, cond, List, [], ◌∷◌, ◌++◌, length, Option, Some, None, IsSome, slice_get, refl, sym, ap, ◌∙◌, subst, arith}
+use Rattle.std.proofs.Common.{◌≡◌, ℕ, zero, suc, ◌+◌, ◌<◌, ◌≤◌, Bool, true, false, cond, List, [], ◌∷◌, length, Option, Some, None, IsSome, slice_get, refl, sym, ap, ◌∙◌, subst, arith}
 use Rattle.std.specs.Option.{is_some}
-use Rattle.std.specs.List.{list_all, find, count_by, range_with_len, AllByRecursion}
-use Rattle.std.proofs.lemmas.Bool.{and_parts, false≢true, cond-true}
+use Rattle.std.specs.List.{find, count_by, AllByRecursion}
+use Rattle.std.proofs.lemmas.Bool.{false≢true, cond-true}
 use Rattle.std.proofs.lemmas.Option.{none-some}
 use Rattle.std.proofs.lemmas.List.Sums.{sum_by-cons}
 
@@ -17,32 +17,6 @@ pub slice_get-there : {X : Type 0} (xs : List X) (i : ℕ) → i < length xs →
 slice_get-there [] i h = absurd (omega arith)
 slice_get-there (x ∷ xs) zero h = refl
 slice_get-there (x ∷ xs) (suc i) h = slice_get-there xs i (omega arith)
-
-pub slice_get-left : {X : Type 0} (xs ys : List X) (i : ℕ) → i < length xs → slice_get (xs ++ ys) i ≡ slice_get xs i
-slice_get-left [] ys i h = absurd (omega arith)
-slice_get-left (x ∷ xs) ys zero h = refl
-slice_get-left (x ∷ xs) ys (suc i) h = slice_get-left xs ys i (omega arith)
-
-pub slice_get-right : {X : Type 0} (xs ys : List X) (i j : ℕ) → i ≡ length xs + j → slice_get (xs ++ ys) i ≡ slice_get ys j
-slice_get-right [] ys i j e = let k : i ≡ j = omega arith in ap (slice_get ys) k
-slice_get-right (x ∷ xs) ys zero j e = absurd (omega arith)
-slice_get-right (x ∷ xs) ys (suc i) j e = slice_get-right xs ys i j (omega arith)
-
-pub list_all-slice_get : {X : Type 0} (p : X → Bool) (xs : List X) (i : ℕ) (x : X) → list_all p xs ≡ true → slice_get xs i ≡ Some x → p x ≡ true
-list_all-slice_get p [] i x h e = absurd (none-some x e)
-list_all-slice_get p (y ∷ ys) zero x h e = let s : y ≡ x = cc in ap p (sym s) ∙ (and_parts (p y) (list_all p ys) h).0
-list_all-slice_get p (y ∷ ys) (suc i) x h e = list_all-slice_get p ys i x (and_parts (p y) (list_all p ys) h).1 e
-
-pub list_all-range : (p : ℕ → Bool) (a n i j : ℕ) → list_all p (range_with_len a n) ≡ true → i < n → j ≡ a + i → p j ≡ true
-list_all-range p a zero i j h l e = absurd (omega arith)
-list_all-range p a (suc n) zero j h l e =
-    let s : j ≡ a = omega arith in ap p s ∙ (and_parts (p a) (list_all p (range_with_len (a + 1) n)) h).0
-list_all-range p a (suc n) (suc i) j h l e =
-    list_all-range p (a + 1) n i j (and_parts (p a) (list_all p (range_with_len (a + 1) n)) h).1 (omega arith) (omega arith)
-
-pub all_from_places : {X : Type 0} (P : X → Type 0) (xs : List X) → ((i : ℕ) (x : X) → slice_get xs i ≡ Some x → P x) → AllByRecursion P xs
-all_from_places P [] f = tt
-all_from_places P (x ∷ xs) f = (f 0 x refl, all_from_places P xs (λ i. f (suc i)))
 
 pub at_place_of_all : {X : Type 0} (P : X → Type 0) (xs : List X) (i : ℕ) (x : X) → AllByRecursion P xs → slice_get xs i ≡ Some x → P x
 at_place_of_all P [] i x h e = absurd (none-some x e)

@@ -12,9 +12,11 @@ use Rattle.lrc_base.specs.declared.grammar.Production.{Production}
 use Rattle.lrc_meaning.specs.Tree.{Tree, int, bool, name, node, Trees, is_sort, is_left, kids_of, fits, each_fits, tree_height}
 use Rattle.lrc_meaning.specs.Grammar.{Grammar, attrs_of_sort}
 use Rattle.lrc_meaning.specs.Attribution.{Decorated, at_node, Parts, end, value, symbol, bare, bare_kids, production_of, kid_values, occurrence_values, leaf_at, kids_agree, extras_agree, Holds, IsNodeRight, IsRight, AreRight, height, highest}
+use Rattle.lrc_meaning.proofs.KindLemmas.{left_kind}
+use Rattle.lrc_meaning.proofs.ListLemmas.{slice_left}
 use Rattle.lrc_scratch.specs.Sums.{values_at, is_summable}
-use Rattle.lrc_scratch.proofs.ListLemmas.{some_of, slice_get-left, find-there, find-passes, at_place_of_all}
-use Rattle.lrc_scratch.proofs.GrammarLemmas.{is_left-kind, is_plain_right, one_equation}
+use Rattle.lrc_scratch.proofs.ListLemmas.{some_of, find-there, find-passes, at_place_of_all}
+use Rattle.lrc_scratch.proofs.GrammarLemmas.{is_plain_right, one_equation}
 use Rattle.lrc_scratch.proofs.ValueLemmas.{values_at-node}
 use Rattle.lrc_scratch.proofs.DecorationLemmas.{trees_of, part, decorated, parts, highest_parts, max_zero}
 use Rattle.lrc_scratch.proofs.AttributionLemmas.{equation_sum, target_sum, equation_value, length-trees_at}
@@ -41,7 +43,7 @@ module _ (g : Grammar) (summable : IsTrue (is_summable g.sorts g.prods)) where
   leaf_part (bool b) kind d rest s f = refl
   leaf_part (name n) kind d rest s f = refl
   leaf_part (node p kids) kind d rest s f =
-      let q = is_left-kind g.prods p kind (and_parts (is_left g.prods p kind) (each_fits g.prods kids (kids_of g.prods p)) f).0 in
+      let q = left_kind g.prods p kind (and_parts (is_left g.prods p kind) (each_fits g.prods kids (kids_of g.prods p)) f).0 in
       absurd (no_leaf_sort (k.Sort q.0.left) kind q.2 refl s)
 
   symbol_part : (d : Decorated) (rest : Parts) → part (bare d) (decorated g.sorts g.prods (bare d)) rest ≡ symbol (decorated g.sorts g.prods (bare d)) rest
@@ -88,7 +90,7 @@ module _ (g : Grammar) (summable : IsTrue (is_summable g.sorts g.prods)) where
       let as_sum : Some holds.given ≡ Some (int sum.0) = sym holds.of_expression ∙ equation_value g.sorts g.prods q plain ts fit own right.owns there.0 sum.0 sum.1 in
       let as_own : Some holds.given ≡ Some x =
       sym holds.of_target ∙ ap (slice_get (occurrence_values own (parts g.sorts g.prods ts) end)) target
-      ∙ slice_get-left own (kid_values (parts g.sorts g.prods ts) ++ []) i (slice_get_within own i x h) ∙ h in
+      ∙ slice_left own (kid_values (parts g.sorts g.prods ts) ++ []) i (slice_get_within own i x h) ∙ h in
       slice_get-map (λ (v : ℤ). int v) (values_at g.sorts g.prods (node p ts)) i
       ∙ ap (option_map (λ (v : ℤ). int v))
       (ap (λ xs. slice_get xs i) (values_at-node g.sorts g.prods p ts q is)

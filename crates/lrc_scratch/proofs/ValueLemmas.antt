@@ -17,9 +17,11 @@ use Rattle.lrc_meaning.specs.Tree.{Tree, int, bool, name, node, Trees, none, mor
 use Rattle.lrc_meaning.specs.Expression.{Expression, literal, occurrence, leaf, binary, choice, make, expression, int_in}
 use Rattle.lrc_meaning.specs.Grammar.{attrs_of_sort, attrs_of, Occurrence, symbol_occurrence, occurrences_of, read_kind, leaf_kind, of_kind, common_kind, expression_kind}
 use Rattle.lrc_meaning.specs.Plain.{is_int, is_sum}
+use Rattle.lrc_meaning.proofs.KindLemmas.{one_kind, left_kind}
+use Rattle.lrc_meaning.proofs.ListLemmas.{list_all-at}
 use Rattle.lrc_scratch.specs.Sums.{int_at, added, sum_of, attribute_sum, first_sums, production_sums, values_at, values_below}
-use Rattle.lrc_scratch.proofs.ListLemmas.{some_of, slice_get-there, list_all-slice_get, find-there, find-passes}
-use Rattle.lrc_scratch.proofs.GrammarLemmas.{same_kind-same, is_left-kind, symbols_of, IsPlainRight, equation_at, one_equation, occurrence_there}
+use Rattle.lrc_scratch.proofs.ListLemmas.{some_of, slice_get-there, find-there, find-passes}
+use Rattle.lrc_scratch.proofs.GrammarLemmas.{symbols_of, IsPlainRight, equation_at, one_equation, occurrence_there}
 
 no_sorts : (b : Bool) (r : ℕ) (g : Kind) → of_kind k.Int k.Int (cond b (Some (k.Sort r)) None) ≡ Some g → ⊥
 no_sorts true r g h = none-some g h
@@ -91,13 +93,13 @@ leaf_over (k.Sort s) h = absurd (none-some k.Int h)
 
 node_is_no_int : (prods : List Production) (p : ℕ) (kids : Trees) (kind : Kind) → kind ≡ k.Int → IsTrue (fits prods (node p kids) kind) → ⊥
 node_is_no_int prods p kids kind e h =
-    let q = is_left-kind prods p kind (and_parts (is_left prods p kind) (each_fits prods kids (kids_of prods p)) h).0 in
+    let q = left_kind prods p kind (and_parts (is_left prods p kind) (each_fits prods kids (kids_of prods p)) h).0 in
     let c : k.Sort q.0.left ≡ k.Int = q.2 ∙ e in cc
 
 int_fits : (prods : List Production) (t : Tree) (kind : Kind) → kind ≡ k.Int → IsTrue (fits prods t kind) → IsSome (int_in t)
 int_fits prods (int i) kind e h = refl
-int_fits prods (bool b) kind e h = let c : k.Bool ≡ k.Int = same_kind-same k.Bool kind h ∙ e in cc
-int_fits prods (name n) kind e h = let c : k.Name ≡ k.Int = same_kind-same k.Name kind h ∙ e in cc
+int_fits prods (bool b) kind e h = let c : k.Bool ≡ k.Int = one_kind k.Bool kind h ∙ e in cc
+int_fits prods (name n) kind e h = let c : k.Name ≡ k.Int = one_kind k.Name kind h ∙ e in cc
 int_fits prods (node p kids) kind e h = absurd (node_is_no_int prods p kids kind e h)
 
 -- a child that is declared a number is one
@@ -133,11 +135,11 @@ module _ (sorts : List Sort) (prods : List Production) where
   values_at-node p kids q e = ap (λ o. option_map_or (λ (q : Production). production_sums sorts q (values_below sorts prods kids) kids) o []) e
 
   pub length-values_at : (t : Tree) (kind : Kind) → IsTrue (fits prods t kind) → length (values_at sorts prods t) ≡ length (attrs_of sorts kind)
-  length-values_at (int i) kind h = sym (leaf_has_none sorts kind (ap is_sort (sym (same_kind-same k.Int kind h))))
-  length-values_at (bool b) kind h = sym (leaf_has_none sorts kind (ap is_sort (sym (same_kind-same k.Bool kind h))))
-  length-values_at (name n) kind h = sym (leaf_has_none sorts kind (ap is_sort (sym (same_kind-same k.Name kind h))))
+  length-values_at (int i) kind h = sym (leaf_has_none sorts kind (ap is_sort (sym (one_kind k.Int kind h))))
+  length-values_at (bool b) kind h = sym (leaf_has_none sorts kind (ap is_sort (sym (one_kind k.Bool kind h))))
+  length-values_at (name n) kind h = sym (leaf_has_none sorts kind (ap is_sort (sym (one_kind k.Name kind h))))
   length-values_at (node p kids) kind h =
-      let q = is_left-kind prods p kind (and_parts (is_left prods p kind) (each_fits prods kids (kids_of prods p)) h).0 in
+      let q = left_kind prods p kind (and_parts (is_left prods p kind) (each_fits prods kids (kids_of prods p)) h).0 in
       ap length (values_at-node p kids q.0 q.1)
       ∙ length-first_sums q.0 (length (attrs_of_sort sorts q.0.left)) (values_below sorts prods kids) kids (length (attrs_of_sort sorts q.0.left))
       ∙ ap (λ kind. length (attrs_of sorts kind)) q.2
@@ -163,7 +165,7 @@ module _ (sorts : List Sort) (prods : List Production) (q : Production) (right :
       (there.0, subst (λ n. i - length (attrs_of_sort sorts q.left) < n) (sym (length-values_below sorts prods kids q.kids kids_fit)) there.1))
       (λ i l. int_leaf_there prods kids q.kids i kids_fit l)
       (expression e.expr)
-      (list_all-slice_get (λ (e : Equation). is_sum (expression e.expr)) q.equations j e right.are_sums h)
+      (list_all-at (λ (e : Equation). is_sum (expression e.expr)) q.equations j e right.are_sums h)
       (equation_at sorts prods q right j e h).1
 
   pub attribute_sum_there : (n : ℕ) → n < length (attrs_of_sort sorts q.left)

@@ -7,16 +7,16 @@ use Rattle.lrc_base.specs.declared.grammar.Kind.TheVariants as k
 use Rattle.lrc_base.specs.declared.grammar.Kid.{Kid}
 use Rattle.lrc_base.specs.declared.grammar.Production.{Production}
 use Rattle.lrc_meaning.specs.Tree.{Tree, int, bool, name, node, Trees, none, more, is_left, kids_of, fits, each_fits, kind_of, at_place, among, replaced, replaced_among}
-use Rattle.lrc_scratch.proofs.GrammarLemmas.{same_kind-same, is_left-kind}
+use Rattle.lrc_meaning.proofs.KindLemmas.{one_kind, left_kind}
 use Rattle.lrc_edit.specs.Places.{are_numbers_below, are_each_below}
 
 -- a tree that fits a kind is of it
 fits-kind : (prods : List Production) (t : Tree) (kind : Kind) → IsTrue (fits prods t kind) → kind_of prods t ≡ Some kind
-fits-kind prods (int i) kind h = ap Some (same_kind-same k.Int kind h)
-fits-kind prods (bool b) kind h = ap Some (same_kind-same k.Bool kind h)
-fits-kind prods (name n) kind h = ap Some (same_kind-same k.Name kind h)
+fits-kind prods (int i) kind h = ap Some (one_kind k.Int kind h)
+fits-kind prods (bool b) kind h = ap Some (one_kind k.Bool kind h)
+fits-kind prods (name n) kind h = ap Some (one_kind k.Name kind h)
 fits-kind prods (node p kids) kind h =
-    let q = is_left-kind prods p kind (and_parts (is_left prods p kind) (each_fits prods kids (kids_of prods p)) h).0 in
+    let q = left_kind prods p kind (and_parts (is_left prods p kind) (each_fits prods kids (kids_of prods p)) h).0 in
     ap (option_map (λ (q : Production). k.Sort q.left)) q.1 ∙ ap Some q.2
 
 -- the production numbers of a tree that fits are below the number of productions
@@ -27,7 +27,7 @@ mutual
   fits-below prods (name n) kind h = refl
   fits-below prods (node p kids) kind h =
       let parts = and_parts (is_left prods p kind) (each_fits prods kids (kids_of prods p)) h in
-      let q = is_left-kind prods p kind parts.0 in
+      let q = left_kind prods p kind parts.0 in
       and_from (nat_lt p (length prods)) (are_each_below (length prods) kids) (lt-ltb p (length prods) (slice_get_within prods p q.0 q.1)) (each-below prods kids (kids_of prods p) parts.1)
 
   each-below : (prods : List Production) (ts : Trees) (kids : List Kid) → IsTrue (each_fits prods ts kids) → IsTrue (are_each_below (length prods) ts)

@@ -3,7 +3,7 @@ use Rattle.lrc_base.specs.declared.term.Term.{the_lemmas}
 use Rattle.std.proofs.lemmas.Option.{slice_get_read, slice_get_within}
 use Rattle.std.proofs.lemmas.Result.{IfOk-weaker}
 use Rattle.lrc_meaning.specs.Tree.{row, tree, fits, each_fits, kids_of}
-use Rattle.lrc_scratch.proofs.GrammarLemmas.{is_left-kind}
+use Rattle.lrc_meaning.proofs.KindLemmas.{left_kind}
 use Rattle.lrc_scratch.proofs.TermLemmas.{node_fits, kid_fits, values_below-more, node_sums_there, node_sums_are, left_there, leaf_values}
 use Rattle.lrc_scratch.specs.Sums.{values_below}
 use Rattle.lrc_base.specs.declared.term.Term.TheVariants as v
@@ -26,14 +26,14 @@ tree_values-kid_values-requires t c =
 pub tree_values-bounds-prods-number : goal.tree_values-bounds-prods-number
 tree_values-bounds-prods-number t c =
     let f = node_fits c.args.prods.now c.args.term.now c.in-Node.number c.in-Node.kids c.requires.fitting.0 c.in-Node.is c.requires.fitting.1 in
-    let q = is_left-kind c.args.prods.now c.in-Node.number c.requires.fitting.0 f.0 in
+    let q = left_kind c.args.prods.now c.in-Node.number c.requires.fitting.0 f.0 in
     slice_get_within c.args.prods.now c.in-Node.number q.0 q.1
 
 -- the production that was read is the node's
 production_is : (t : ℕ) (c : After-index t) → slice_get c.args.prods.now c.in-Node.number ≡ Some c.index-prods-number.result
 production_is t c =
     let f = node_fits c.args.prods.now c.args.term.now c.in-Node.number c.in-Node.kids c.requires.fitting.0 c.in-Node.is c.requires.fitting.1 in
-    let q = is_left-kind c.args.prods.now c.in-Node.number c.requires.fitting.0 f.0 in
+    let q = left_kind c.args.prods.now c.in-Node.number c.requires.fitting.0 f.0 in
     slice_get_read c.args.prods.now _ c.in-Node.number c.index-prods-number.result refl (slice_get_within c.args.prods.now c.in-Node.number q.0 q.1) c.index-prods-number.is
 
 pub tree_values-attribute_count-own-requires : goal.tree_values-attribute_count-own-requires
