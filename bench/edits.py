@@ -36,7 +36,7 @@ def puts(power):
 
 def main():
     here = os.path.dirname(os.path.abspath(__file__))
-    program = sys.argv[1] if len(sys.argv) > 1 else os.path.join(here, "..", "crates", "lrc_cli", "out", "lrc_cli")
+    program = sys.argv[1] if len(sys.argv) > 1 else os.path.join(here, "..", "crates", "lrc", "out", "lrc")
     micros = {}
     for power in (10, 14):
         opening = GRAMMAR % balanced(2 ** power)

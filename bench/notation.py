@@ -108,7 +108,7 @@ def measure(program):
 
 def main():
     here = os.path.dirname(os.path.abspath(__file__))
-    measure(sys.argv[1] if len(sys.argv) > 1 else os.path.join(here, "..", "crates", "lrc_cli", "out", "lrc_cli"))
+    measure(sys.argv[1] if len(sys.argv) > 1 else os.path.join(here, "..", "crates", "lrc", "out", "lrc"))
 
 
 if __name__ == "__main__":

@@ -66,7 +66,7 @@ def seconds(program, command, text, times):
 
 def main():
     here = os.path.dirname(os.path.abspath(__file__))
-    program = sys.argv[1] if len(sys.argv) > 1 else os.path.join(here, "..", "crates", "lrc_cli", "out", "lrc_cli")
+    program = sys.argv[1] if len(sys.argv) > 1 else os.path.join(here, "..", "crates", "lrc", "out", "lrc")
     for command in ("check", "plan"):
         spent = {}
         for productions in (128, 256):

@@ -17,7 +17,7 @@ from order import grammar, seconds
 
 def main():
     here = os.path.dirname(os.path.abspath(__file__))
-    program = sys.argv[1] if len(sys.argv) > 1 else os.path.join(here, "..", "crates", "lrc_cli", "out", "lrc_cli")
+    program = sys.argv[1] if len(sys.argv) > 1 else os.path.join(here, "..", "crates", "lrc", "out", "lrc")
     spent = {}
     for attributes in (8, 16):
         spent[attributes] = seconds(program, "plan", grammar(256, attributes), 5)

@@ -50,7 +50,7 @@ def seconds(program, text, times):
 
 def main():
     here = os.path.dirname(os.path.abspath(__file__))
-    program = sys.argv[1] if len(sys.argv) > 1 else os.path.join(here, "..", "crates", "lrc_cli", "out", "lrc_cli")
+    program = sys.argv[1] if len(sys.argv) > 1 else os.path.join(here, "..", "crates", "lrc", "out", "lrc")
     start, _ = seconds(program, (GRAMMAR % "Num(1)").encode(), 9)
     micros = {}
     for power in (12, 18):

@@ -4,7 +4,7 @@ use Rattle.std.specs.List.{list_any}
 use Rattle.std.specs.Str.{bytes_eq}
 use Rattle.lrc_base.specs.declared.raw.RawItem.{RawItem}
 use Rattle.lrc_base.specs.declared.raw.RawItem.TheVariants as item
-use Rattle.lrc_faults.specs.Faults.{Name, is_among, declared_by, declared_name, Target, same_target, target_of, has_target}
+use Rattle.lrc_fault_meaning.specs.Faults.{Name, is_among, declared_by, declared_name, Target, same_target, target_of, has_target}
 use Rattle.lrc_check.specs.Declares.{declares, is_equation_of}
 use Rattle.lrc_check.proofs.ListLemmas.{any_mapped, any_flat, any_same}
 

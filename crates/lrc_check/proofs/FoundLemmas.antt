@@ -8,7 +8,7 @@ use Rattle.lrc_base.specs.declared.raw.RawProd.{RawProd}
 use Rattle.lrc_base.specs.declared.raw.RawGrammar.{RawGrammar}
 use Rattle.lrc_base.specs.declared.raw.RawExpr.{RawExpr, RawExpr-F, fold-roll-RawExpr}
 use Rattle.lrc_base.specs.declared.raw.RawExpr.TheVariants as v
-use Rattle.lrc_faults.specs.Faults.{Name, Fault, fault, unknown, Found, at_fault, behind, checked, are_right, constructed, found_step, found_of}
+use Rattle.lrc_fault_meaning.specs.Faults.{Name, Fault, fault, unknown, Found, at_fault, behind, checked, are_right, constructed, found_step, found_of}
 use Rattle.lrc_check.proofs.ArgumentLemmas.{faults_of}
 
 module _ (g : RawGrammar) (p : RawProd) (wrong : Fault) where

@@ -6,7 +6,7 @@ use Rattle.lrc_base.specs.declared.raw.RawSort.{RawSort}
 use Rattle.lrc_base.specs.declared.raw.RawKid.{RawKid}
 use Rattle.lrc_base.specs.declared.raw.RawProd.{RawProd}
 use Rattle.lrc_base.specs.declared.raw.RawGrammar.{RawGrammar}
-use Rattle.lrc_faults.specs.Faults.{Fault, attrs_named, declared_by, missing_of_left, missing_of_kid, missing_of_declared, missing, each_after, sort_faults, head_faults, start_faults, declaration_faults, body_faults, faults}
+use Rattle.lrc_fault_meaning.specs.Faults.{Fault, attrs_named, declared_by, missing_of_left, missing_of_kid, missing_of_declared, missing, each_after, sort_faults, head_faults, start_faults, declaration_faults, body_faults, faults}
 use Rattle.lrc_check.specs.declared.declared.Declared.{Declared}
 use Rattle.lrc_check.specs.Declares.{declaration}
 use Rattle.lrc_check.specs.Verdict.{verdict, name_faults}

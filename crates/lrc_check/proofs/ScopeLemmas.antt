@@ -6,7 +6,7 @@ use Rattle.lrc_base.specs.declared.raw.RawAttr.{RawAttr}
 use Rattle.lrc_base.specs.declared.raw.RawKid.{RawKid}
 use Rattle.lrc_base.specs.declared.raw.RawProd.{RawProd}
 use Rattle.lrc_base.specs.declared.raw.RawGrammar.{RawGrammar}
-use Rattle.lrc_faults.specs.Faults.{Name, attrs_named, declared_name, left_or_other, kid_or_declared, means}
+use Rattle.lrc_fault_meaning.specs.Faults.{Name, attrs_named, declared_name, left_or_other, kid_or_declared, means}
 use Rattle.lrc_check.specs.declared.declared.Declared.{Declared}
 use Rattle.lrc_check.specs.Declares.{declaration}
 use Rattle.lrc_check.specs.Meaning.{means_among}

@@ -2,7 +2,7 @@
 use Rattle.std.specs.Prelude.{Bool, false, Some, None, bytes_eq}
 use Rattle.lrc_base.specs.declared.raw.RawItem.{RawItem}
 use Rattle.lrc_base.specs.declared.raw.RawItem.TheVariants as item
-use Rattle.lrc_faults.specs.Faults as f
+use Rattle.lrc_fault_meaning.specs.Faults as f
 use Rattle.lrc_check.specs.declared.declared.Declared.{Declared}
 use Rattle.lrc_check.specs.declared.declared.Declared.TheVariants as d
 

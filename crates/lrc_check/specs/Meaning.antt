@@ -2,7 +2,7 @@
 use Rattle.std.specs.Prelude.{List, find, option_map, bytes_eq}
 use Rattle.lrc_base.specs.declared.raw.RawAttr.{RawAttr}
 use Rattle.lrc_base.specs.declared.raw.RawKid.{RawKid}
-use Rattle.lrc_faults.specs.Faults as f
+use Rattle.lrc_fault_meaning.specs.Faults as f
 use Rattle.lrc_check.specs.declared.declared.Declared.{Declared}
 use Rattle.lrc_check.specs.Declares.{declaration}
 use Rattle.lrc_check.specs.declared.scope.Means.{Means}

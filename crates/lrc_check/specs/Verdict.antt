@@ -4,7 +4,7 @@ use Rattle.lrc_base.specs.declared.raw.RawProd.{RawProd}
 use Rattle.lrc_base.specs.declared.raw.RawGrammar.{RawGrammar}
 use Rattle.lrc_base.specs.declared.raw.RawKind.{RawKind}
 use Rattle.lrc_base.specs.declared.raw.RawKid.{RawKid}
-use Rattle.lrc_faults.specs.Faults.{FaultKind, twice, unknown, missing_equation, double_equation, not_normal, wrong_kind, start_inherits, Fault, Found, of_kind, same_kind, are_right, each_after, sort_faults, head_faults, start_faults, declaration_faults}
+use Rattle.lrc_fault_meaning.specs.Faults.{FaultKind, twice, unknown, missing_equation, double_equation, not_normal, wrong_kind, start_inherits, Fault, Found, of_kind, same_kind, are_right, each_after, sort_faults, head_faults, start_faults, declaration_faults}
 use Rattle.lrc_check.specs.declared.fault.GrammarKind.{GrammarKind}
 use Rattle.lrc_check.specs.declared.fault.GrammarKind.TheVariants as k
 use Rattle.lrc_check.specs.declared.fault.GrammarFault.{GrammarFault}

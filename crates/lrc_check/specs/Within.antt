@@ -3,7 +3,7 @@ use Rattle.std.specs.Prelude.{◌≡◌, List, map, flat_map}
 use Rattle.lrc_base.specs.declared.raw.RawAttr.{RawAttr}
 use Rattle.lrc_base.specs.declared.raw.RawProd.{RawProd}
 use Rattle.lrc_base.specs.declared.raw.RawGrammar.{RawGrammar}
-use Rattle.lrc_faults.specs.Faults.{attrs_named, declared_by}
+use Rattle.lrc_fault_meaning.specs.Faults.{attrs_named, declared_by}
 use Rattle.lrc_check.specs.declared.declared.Declared.{Declared}
 use Rattle.lrc_check.specs.Declares.{declaration}
 

@@ -2,14 +2,14 @@ ghost use Rattle.std.specs.Prelude.{◌≡◌, ◌≢◌, None, Some, option_map
 ghost use Rattle.lrc_meaning.specs.Limits.{KeepsLimits};
 ghost use Rattle.lrc_meaning.specs.Naming.{named_grammar};
 ghost use Rattle.lrc_grammar.specs.Grammar.{grammar_of};
-ghost use Rattle.lrc_faults.specs.Faults as faults;
+ghost use Rattle.lrc_fault_meaning.specs.Faults as faults;
 ghost use Rattle.lrc_check.specs.Verdict.{answered, no_memory};
 
 use crate::fault::GrammarFault;
 use crate::first::first_fault;
 use lrc_base::{Memory, RawGrammar};
+use lrc_fault_laws::no_fault_is_well_formed;
 use lrc_grammar::Grammar;
-use lrc_named::no_fault_is_well_formed;
 use lrc_naming::named_grammar;
 use std::alloc::Global;
 

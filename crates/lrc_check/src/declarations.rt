@@ -1,7 +1,7 @@
 ghost use Rattle.std.specs.Prelude.{◌≡◌, [], map, flat_map};
 ghost use Rattle.std.specs.List.{list_any};
 ghost use Rattle.lrc_base.specs.declared.raw.RawProd.{RawProd};
-ghost use Rattle.lrc_faults.specs.Faults.{is_among, declared_by, declared_name, names_before, is_pattern, declaration_faults, each_after};
+ghost use Rattle.lrc_fault_meaning.specs.Faults.{is_among, declared_by, declared_name, names_before, is_pattern, declaration_faults, each_after};
 ghost use Rattle.lrc_check.specs.Verdict.{verdict};
 ghost use Rattle.lrc_check.specs.Declares.{declares};
 

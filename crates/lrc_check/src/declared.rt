@@ -1,7 +1,7 @@
 ghost use Rattle.std.specs.Prelude.{◌≡◌, map, flat_map, find, bytes_eq, IfOk};
 ghost use Rattle.std.specs.Option.{option_copied};
 ghost use Rattle.lrc_base.specs.declared.raw.RawItem.{RawItem};
-ghost use Rattle.lrc_faults.specs.Faults.{declared_by, declared_name};
+ghost use Rattle.lrc_fault_meaning.specs.Faults.{declared_by, declared_name};
 ghost use Rattle.lrc_check.specs.Declares.{declaration};
 
 use lrc_base::{List, Memory, NameText, RawItem, RawKind};

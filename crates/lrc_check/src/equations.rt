@@ -1,6 +1,6 @@
 ghost use Rattle.std.specs.Prelude.{◌≡◌, [], Some, None, flat_map};
 ghost use Rattle.std.specs.List.{list_any};
-ghost use Rattle.lrc_faults.specs.Faults.{means, is_nothing, symbol_sort, has_target, equation_faults, own_equation, attr_equation, symbol_equation, piece_faults, item_faults, each_after};
+ghost use Rattle.lrc_fault_meaning.specs.Faults.{means, is_nothing, symbol_sort, has_target, equation_faults, own_equation, attr_equation, symbol_equation, piece_faults, item_faults, each_after};
 ghost use Rattle.lrc_check.specs.Verdict.{verdict};
 ghost use Rattle.lrc_check.specs.Declares.{is_equation_of};
 

@@ -1,6 +1,6 @@
 ghost use Rattle.std.specs.Prelude.{◌≡◌, ◌&&◌, None, Some, map, cond, find, bytes_eq};
 ghost use Rattle.std.specs.Option.{option_copied};
-ghost use Rattle.lrc_faults.specs.Faults.{wrong_kind, target_fault, checked, both_are_numbers, operated, choice, constructed, are_right, found_of, expr_faults, same_kind};
+ghost use Rattle.lrc_fault_meaning.specs.Faults.{wrong_kind, target_fault, checked, both_are_numbers, operated, choice, constructed, are_right, found_of, expr_faults, same_kind};
 ghost use Rattle.lrc_check.specs.Verdict.{verdict, Finds, FindsAll, kids_of, is_of_kind};
 
 use crate::fault::{GrammarFault, GrammarKind};

@@ -1,6 +1,6 @@
 ghost use Rattle.std.specs.Prelude.{◌≡◌, ◌++◌, [], map, flat_map, option_map, IfOk};
 ghost use Rattle.lrc_base.specs.declared.raw.RawProd.{RawProd};
-ghost use Rattle.lrc_faults.specs.Faults.{sort_faults, head_faults, start_faults, declaration_faults, body_faults, each_after, faults, first, first_fault};
+ghost use Rattle.lrc_fault_meaning.specs.Faults.{sort_faults, head_faults, start_faults, declaration_faults, body_faults, each_after, faults, first, first_fault};
 ghost use Rattle.lrc_check.specs.Verdict.{verdict, answered, name_faults};
 
 use crate::declarations::check_declarations;

@@ -1,5 +1,5 @@
 ghost use Rattle.std.specs.Prelude.{◌≡◌, flat_map};
-ghost use Rattle.lrc_faults.specs.Faults.{missing_target, missing_of_left, missing_of_symbol, missing_of_kid, missing_of_declared, missing};
+ghost use Rattle.lrc_fault_meaning.specs.Faults.{missing_target, missing_of_left, missing_of_symbol, missing_of_kid, missing_of_declared, missing};
 ghost use Rattle.lrc_check.specs.declared.declared.Declared.{Declared};
 ghost use Rattle.lrc_check.specs.Declares.{declaration};
 ghost use Rattle.lrc_check.specs.Verdict.{verdict};

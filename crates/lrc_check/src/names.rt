@@ -6,7 +6,7 @@ ghost use Rattle.lrc_base.specs.declared.raw.RawSort.{RawSort};
 ghost use Rattle.lrc_meaning.specs.Naming.{sort_number};
 ghost use Rattle.lrc_base.specs.declared.raw.RawKid.{RawKid};
 ghost use Rattle.lrc_base.specs.declared.raw.RawProd.{RawProd};
-ghost use Rattle.lrc_faults.specs.Faults.{is_among, kid_names, attrs_named};
+ghost use Rattle.lrc_fault_meaning.specs.Faults.{is_among, kid_names, attrs_named};
 
 use lrc_base::{NameText, RawAttr, RawKid, RawProd, RawSort};
 

@@ -1,6 +1,6 @@
 ghost use Rattle.std.specs.Prelude.{◌≡◌, None, Some, cond, find, bytes_eq, MatchResult};
 ghost use Rattle.std.specs.Option.{option_copied};
-ghost use Rattle.lrc_faults.specs.Faults.{means, symbol_sort, is_nothing, fault, unknown, not_normal, attr_in_sort, read_alone, read_attr, read_of};
+ghost use Rattle.lrc_fault_meaning.specs.Faults.{means, symbol_sort, is_nothing, fault, unknown, not_normal, attr_in_sort, read_alone, read_attr, read_of};
 ghost use Rattle.lrc_check.specs.Verdict.{answered, Finds};
 
 use crate::fault::{GrammarFault, GrammarKind};

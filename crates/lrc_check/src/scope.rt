@@ -1,7 +1,7 @@
 ghost use Rattle.std.specs.Prelude.{◌≡◌, None, Some, cond, map, flat_map, find, bytes_eq, option_map, MatchResult};
 ghost use Rattle.std.specs.Option.{option_copied};
 ghost use Rattle.lrc_base.specs.declared.raw.RawProd.{RawProd};
-ghost use Rattle.lrc_faults.specs.Faults.{attrs_named, declared_by, kid_means, declared_means, means, symbol_sort, is_nothing, fault, unknown, not_normal};
+ghost use Rattle.lrc_fault_meaning.specs.Faults.{attrs_named, declared_by, kid_means, declared_means, means, symbol_sort, is_nothing, fault, unknown, not_normal};
 ghost use Rattle.lrc_check.specs.Declares.{declaration};
 ghost use Rattle.lrc_check.specs.Meaning.{meaning, means_among};
 ghost use Rattle.lrc_check.specs.Verdict.{answered};

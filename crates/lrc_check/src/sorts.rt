@@ -1,5 +1,5 @@
 ghost use Rattle.std.specs.Prelude.{◌≡◌, []};
-ghost use Rattle.lrc_faults.specs.Faults.{attr_faults, sort_faults, each_after};
+ghost use Rattle.lrc_fault_meaning.specs.Faults.{attr_faults, sort_faults, each_after};
 ghost use Rattle.lrc_check.specs.Verdict.{verdict};
 
 use crate::fault::{GrammarFault, GrammarKind};

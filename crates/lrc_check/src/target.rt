@@ -1,6 +1,6 @@
 ghost use Rattle.std.specs.Prelude.{◌≡◌};
 ghost use Rattle.lrc_meaning.specs.Naming.{same_owner};
-ghost use Rattle.lrc_faults.specs.Faults.{same_target};
+ghost use Rattle.lrc_fault_meaning.specs.Faults.{same_target};
 
 use lrc_base::NameText;
 use std::marker::Model;
@@ -14,7 +14,7 @@ pub struct Target {
 }
 
 impl Model for Target {
-    ghost use Rattle.lrc_faults.specs.Faults as faults;
+    ghost use Rattle.lrc_fault_meaning.specs.Faults as faults;
 
     ghost Value = { faults.Target };
 

@@ -13,13 +13,13 @@ use Rattle.lrc_meaning.specs.Grammar.{Grammar, attrs_of_sort, attrs_of, own_occu
 use Rattle.lrc_meaning.specs.Naming.{called_own, called_of, called_extra, called_occurrences}
 use Rattle.lrc_graph.specs.Pairs.{Path, step}
 use Rattle.lrc_graph.specs.Pairs as path
-use Rattle.lrc_order.specs.Induced as induced
-use Rattle.lrc_order.specs.Needs.{needs_of, places_of}
-use Rattle.lrc_order.specs.Induced.{Leads, by_need, by_sort, Induced, is_given, is_joined}
-use Rattle.lrc_order.specs.Sets.{HasTurn, Placed, Before}
-use Rattle.lrc_order.specs.Extended.{Extended, ExtendedPath}
-use Rattle.lrc_order.specs.Ordered.{IsInducedCycle, IsExtendedCycle}
-use Rattle.lrc_order.proofs.MemberLemmas.{member_slice}
+use Rattle.lrc_order_meaning.specs.Induced as induced
+use Rattle.lrc_order_meaning.specs.Needs.{needs_of, places_of}
+use Rattle.lrc_order_meaning.specs.Induced.{Leads, by_need, by_sort, Induced, is_given, is_joined}
+use Rattle.lrc_order_meaning.specs.Sets.{HasTurn, Placed, Before}
+use Rattle.lrc_order_meaning.specs.Extended.{Extended, ExtendedPath}
+use Rattle.lrc_order_meaning.specs.Ordered.{IsInducedCycle, IsExtendedCycle}
+use Rattle.lrc_order_meaning.proofs.MemberLemmas.{member_slice}
 use Rattle.lrc_ordered.specs.Setup.{IsNeedBelow}
 use Rattle.lrc_ordered.proofs.PlaceLemmas.{IsWithin, places_within}
 use Rattle.lrc_ordered.proofs.BridgeLemmas.{closed_within}

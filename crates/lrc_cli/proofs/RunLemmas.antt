@@ -19,7 +19,7 @@ use Rattle.lrc_script.specs.declared.reply.Replies.{Replies}
 use Rattle.lrc_script.specs.Script.{is_fitting_put, are_fitting_puts, reply_of, IsSessionOf, SessionsAreUnique}
 use Rattle.lrc_job.specs.Fitting.{edit_fits, script_fits}
 use Rattle.lrc_job.specs.Job.{Session, session, HasSessions}
-use Rattle.lrc_named.proofs.Grammars.{no_fault_is_named}
+use Rattle.lrc_fault_laws.proofs.Grammars.{no_fault_is_named}
 use Rattle.lrc_cli.specs.Headline.{is_put, IsAccepted, IsBuilt, IsRunOf}
 use Rattle.lrc_cli.specs.Printed.{one_session}
 use Rattle.lrc_cli.specs.Running.{IsPlainSession}

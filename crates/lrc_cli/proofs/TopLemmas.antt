@@ -10,17 +10,17 @@ use Rattle.lrc_words.specs.declared.command.Command.{Command}
 use Rattle.lrc_words.specs.declared.command.Verb.{Verb}
 use Rattle.lrc_words.specs.declared.command.Verb.TheVariants as verb
 use Rattle.lrc_base.specs.declared.grammar.Production.{Production}
-use Rattle.lrc_order.specs.Induced.{Leads}
-use Rattle.lrc_order.specs.Extended.{ExtendedPath}
-use Rattle.lrc_order.specs.Ordered.{IsOrdered, IsAcyclic, IsFirstCycle}
-use Rattle.lrc_lines.specs.declared.failure.Cycle.{Cycle}
+use Rattle.lrc_order_meaning.specs.Induced.{Leads}
+use Rattle.lrc_order_meaning.specs.Extended.{ExtendedPath}
+use Rattle.lrc_order_meaning.specs.Ordered.{IsOrdered, IsAcyclic, IsFirstCycle}
+use Rattle.lrc_failures.specs.declared.failure.Cycle.{Cycle}
 use Rattle.std.proofs.lemmas.List.Elements.{All-contains}
-use Rattle.lrc_order.proofs.MemberLemmas.{member_slice}
+use Rattle.lrc_order_meaning.proofs.MemberLemmas.{member_slice}
 use Rattle.lrc_words.specs.CommandLine.{Says, IsWithinRanges, AreRefused, texts, verb_of}
-use Rattle.lrc_lines.specs.declared.failure.Failure.{Failure}
-use Rattle.lrc_lines.specs.declared.failure.Failure.TheVariants as f
-use Rattle.lrc_lines.specs.Lines.{status_of, IsStatus}
-use Rattle.lrc_lines.specs.Gains.{Gains, GainsLine}
+use Rattle.lrc_failures.specs.declared.failure.Failure.{Failure}
+use Rattle.lrc_failures.specs.declared.failure.Failure.TheVariants as f
+use Rattle.lrc_failures.specs.Lines.{status_of, IsStatus}
+use Rattle.lrc_failures.specs.Gains.{Gains, GainsLine}
 use Rattle.lrc_base.specs.declared.job.Job.{Job}
 use Rattle.lrc_reader.specs.Denotes.{Denotes}
 use Rattle.lrc_reader.specs.declared.fault.JobFault.{JobFault}
@@ -32,7 +32,7 @@ use Rattle.lrc_job.specs.Job.{Session, HasSessions, IsFaultOf}
 use Rattle.lrc_meaning.specs.Tree.{Tree}
 use Rattle.lrc_meaning.specs.Editing.{Change}
 use Rattle.lrc_meaning.specs.Grammar.{Grammar}
-use Rattle.lrc_lines.specs.Taken.{failure_of_text, failure_of_job}
+use Rattle.lrc_failures.specs.Taken.{failure_of_text, failure_of_job}
 use Rattle.lrc_cli.specs.Headline.{IsAccepted, IsBuilt, IsOutputOf, IsBuiltFor}
 use Rattle.lrc_cli.specs.Causes.{row_limit, IsCycleAt, IsUnbuiltVerb, IsBuiltVerb, TellsOrder, IsUnordered, has_cycle, has_no_memory, IsCause, no_job, not_accepted, too_many_rows, no_run, not_ordered, no_memory}
 use Rattle.lrc_cli.proofs.RunLemmas.{OneJob, same_accepted}

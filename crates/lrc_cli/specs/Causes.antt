@@ -7,7 +7,7 @@ use Rattle.lrc_meaning.specs.Tree.{Tree}
 use Rattle.lrc_meaning.specs.Grammar.{Grammar}
 use Rattle.lrc_meaning.specs.Editing.{Change}
 use Rattle.lrc_meaning.specs.Naming.{called_occurrences}
-use Rattle.lrc_order.specs.Ordered.{IsInducedCycle, IsExtendedCycle}
+use Rattle.lrc_order_meaning.specs.Ordered.{IsInducedCycle, IsExtendedCycle}
 use Rattle.lrc_reader.specs.Denotes.{Denotes}
 use Rattle.lrc_words.specs.declared.command.Command.{Command}
 use Rattle.lrc_words.specs.declared.command.Verb.{Verb}
@@ -18,9 +18,9 @@ use Rattle.lrc_job.specs.declared.fault.AcceptFault.{AcceptFault}
 use Rattle.lrc_job.specs.declared.fault.AcceptFault.TheVariants as accept
 use Rattle.lrc_reader.specs.Faults.{FirstTextFault}
 use Rattle.lrc_job.specs.Job.{Session, IsFaultOf}
-use Rattle.lrc_lines.specs.declared.failure.Cycle.{Cycle}
-use Rattle.lrc_lines.specs.declared.failure.Failure.{Failure}
-use Rattle.lrc_lines.specs.declared.failure.Failure.TheVariants as f
+use Rattle.lrc_failures.specs.declared.failure.Cycle.{Cycle}
+use Rattle.lrc_failures.specs.declared.failure.Failure.{Failure}
+use Rattle.lrc_failures.specs.declared.failure.Failure.TheVariants as f
 use Rattle.lrc_cli.specs.Headline.{IsAccepted, IsBuilt}
 
 -- the most rows of all sessions together

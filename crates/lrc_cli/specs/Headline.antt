@@ -9,7 +9,7 @@ use Rattle.lrc_meaning.specs.Editing.{Change, put, copy, show, forget, Reply, Re
 use Rattle.lrc_meaning.specs.Text.{unparsed, run_text}
 use Rattle.lrc_reader.specs.Denotes.{Denotes}
 use Rattle.lrc_job.specs.Job.{Session, HasSessions}
-use Rattle.lrc_order.specs.Ordered.{IsOrdered, Partitions, ArePartitions}
+use Rattle.lrc_order_meaning.specs.Ordered.{IsOrdered, Partitions, ArePartitions}
 use Rattle.lrc_plan.specs.Text.{parts_text, plan_text}
 use Rattle.lrc_words.specs.declared.command.Verb.{Verb}
 use Rattle.lrc_words.specs.declared.command.Verb.TheVariants as verb

@@ -5,8 +5,8 @@ use Rattle.std.specs.Io.KnownBytes.{Appends, Keeps}
 use Rattle.lrc_outside.specs.Known.{TakesUpTo, AppendsPart}
 use Rattle.lrc_words.specs.declared.command.Command.{Command}
 use Rattle.lrc_words.specs.CommandLine.{Says, IsWithinRanges, texts}
-use Rattle.lrc_lines.specs.declared.failure.Failure.{Failure}
-use Rattle.lrc_lines.specs.declared.failure.Failure.TheVariants as f
+use Rattle.lrc_failures.specs.declared.failure.Failure.{Failure}
+use Rattle.lrc_failures.specs.declared.failure.Failure.TheVariants as f
 use Rattle.lrc_cli.specs.Headline.{IsOutputOf, IsBuiltFor}
 use Rattle.lrc_cli.specs.Causes.{IsUnbuilt, IsCause}
 

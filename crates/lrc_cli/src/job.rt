@@ -5,8 +5,8 @@ ghost use Rattle.lrc_words.specs.declared.command.Command.{Command};
 ghost use Rattle.lrc_cli.specs.Headline.{IsAccepted};
 ghost use Rattle.lrc_cli.specs.Causes.{IsCause};
 
+use lrc_failures::Failure;
 use lrc_job::{Accepted, accept};
-use lrc_lines::Failure;
 use lrc_reader::read_job;
 use std::alloc::Global;
 

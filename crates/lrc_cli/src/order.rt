@@ -7,8 +7,8 @@ ghost use Rattle.lrc_cli.specs.Headline.{HasPartitions, IsPartsOf, IsPlanOf};
 
 use crate::job::accepted_job;
 use lrc_base::{Bytes, Memory};
+use lrc_failures::{Cycle, Failure};
 use lrc_grammar::Grammar;
-use lrc_lines::{Cycle, Failure};
 use lrc_naming::called_occurrences;
 use lrc_ordered::{OrderFault, ordered};
 use lrc_plan::{Plan, parts_text, plan, plan_text};

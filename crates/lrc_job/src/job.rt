@@ -2,7 +2,7 @@ ghost use Rattle.std.specs.Prelude.{◌≡◌, IsTrue, None, Some, Ok, IfOk, IfE
 ghost use Rattle.std.specs.List.{list_all};
 ghost use Rattle.lrc_meaning.specs.Limits.{KeepsLimits};
 ghost use Rattle.lrc_meaning.specs.Naming.{named_grammar};
-ghost use Rattle.lrc_faults.specs.Faults.{first_fault};
+ghost use Rattle.lrc_fault_meaning.specs.Faults.{first_fault};
 ghost use Rattle.lrc_grammar.specs.Grammar.{grammar_of};
 ghost use Rattle.lrc_job.specs.Fitting.{script_fits};
 ghost use Rattle.lrc_job.specs.Job.{session, HasSessions, IsFaultOf, IsGrammarFaultOf};

@@ -11,21 +11,21 @@ use Rattle.lrc_base.specs.declared.grammar.Sort.{Sort}
 use Rattle.lrc_base.specs.declared.grammar.Production.{Production}
 use Rattle.lrc_meaning.specs.Tree.{Trees}
 use Rattle.lrc_meaning.specs.Grammar.{Grammar, Occurrence, attrs_of_sort, occurrences_of}
-use Rattle.lrc_order.specs.declared.Place.{Place}
-use Rattle.lrc_order.specs.declared.Partition.{Partition}
-use Rattle.lrc_order.specs.Needs.{symbols_of, left_place}
-use Rattle.lrc_sequence.specs.declared.Action.{Action}
-use Rattle.lrc_sequence.specs.declared.Action.TheVariants as a
-use Rattle.lrc_sequence.specs.declared.Bound.{Bound}
-use Rattle.lrc_sequence.specs.declared.Bound.TheVariants as b
-use Rattle.lrc_sequence.specs.Items.{is_among, is_of, visit_of, visits_of, attrs_of_visit, values_of_visit, symbol_at, makes}
-use Rattle.lrc_sequence.specs.Sequences.{is_defined, segment}
-use Rattle.lrc_sequence.specs.Bindings.{items_of, gained, used, binding as items_between}
-use Rattle.lrc_sequence.specs.Sound.{handed_in, IsDone, IsSound, IsVisitThere}
-use Rattle.lrc_sequence.proofs.ItemLemmas.{contained}
+use Rattle.lrc_order_meaning.specs.declared.Place.{Place}
+use Rattle.lrc_order_meaning.specs.declared.Partition.{Partition}
+use Rattle.lrc_order_meaning.specs.Needs.{symbols_of, left_place}
+use Rattle.lrc_plan_meaning.specs.declared.Action.{Action}
+use Rattle.lrc_plan_meaning.specs.declared.Action.TheVariants as a
+use Rattle.lrc_plan_meaning.specs.declared.Bound.{Bound}
+use Rattle.lrc_plan_meaning.specs.declared.Bound.TheVariants as b
+use Rattle.lrc_plan_meaning.specs.Items.{is_among, is_of, visit_of, visits_of, attrs_of_visit, values_of_visit, symbol_at, makes}
+use Rattle.lrc_plan_meaning.specs.Sequences.{is_defined, segment}
+use Rattle.lrc_plan_meaning.specs.Bindings.{items_of, gained, used, binding as items_between}
+use Rattle.lrc_plan_meaning.specs.Sound.{handed_in, IsDone, IsSound, IsVisitThere}
+use Rattle.lrc_plan_meaning.proofs.ItemLemmas.{contained}
 use Rattle.lrc_visit_meaning.specs.Values.{Call, Result}
 use Rattle.lrc_visit_meaning.specs.Visits.{Held, step}
-use Rattle.lrc_order.proofs.MemberLemmas.{member_map, member_flat, member_of_flat, member_filter, member_of_filter, member_range, member_of_range, member_first}
+use Rattle.lrc_order_meaning.proofs.MemberLemmas.{member_map, member_flat, member_of_flat, member_filter, member_of_filter, member_range, member_of_range, member_first}
 use Rattle.lrc_laws.proofs.HeldLemmas.{Agree, agree_both, agree_right, made_alike}
 use Rattle.lrc_laws.proofs.ReadLemmas.{step_reads}
 use Rattle.lrc_laws.proofs.NodeLemmas.{AllMade}

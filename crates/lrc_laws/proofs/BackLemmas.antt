@@ -13,21 +13,21 @@ use Rattle.lrc_base.specs.declared.grammar.Production.{Production}
 use Rattle.lrc_meaning.specs.Tree.{Tree, int, bool, name, node, Trees}
 use Rattle.lrc_meaning.specs.Grammar.{Grammar, attrs_of_sort}
 use Rattle.lrc_meaning.proofs.KindLemmas.{left_kind}
-use Rattle.lrc_order.specs.declared.Partition.{Partition}
-use Rattle.lrc_sequence.specs.declared.Action.{Action}
-use Rattle.lrc_sequence.specs.declared.Action.TheVariants as a
-use Rattle.lrc_sequence.specs.declared.Bound.{Bound}
-use Rattle.lrc_sequence.specs.declared.Bound.TheVariants as b
-use Rattle.lrc_sequence.specs.Items.{is_among, visit_of, visits_of, attrs_of_visit, values_of_visit, symbol_at, makes}
-use Rattle.lrc_sequence.specs.Sequences.{segment}
-use Rattle.lrc_sequence.specs.Bindings.{gained, binding as items_between}
-use Rattle.lrc_sequence.specs.Sound.{handed_in, IsSound}
-use Rattle.lrc_sequence.proofs.ItemLemmas.{contained, among}
+use Rattle.lrc_order_meaning.specs.declared.Partition.{Partition}
+use Rattle.lrc_plan_meaning.specs.declared.Action.{Action}
+use Rattle.lrc_plan_meaning.specs.declared.Action.TheVariants as a
+use Rattle.lrc_plan_meaning.specs.declared.Bound.{Bound}
+use Rattle.lrc_plan_meaning.specs.declared.Bound.TheVariants as b
+use Rattle.lrc_plan_meaning.specs.Items.{is_among, visit_of, visits_of, attrs_of_visit, values_of_visit, symbol_at, makes}
+use Rattle.lrc_plan_meaning.specs.Sequences.{segment}
+use Rattle.lrc_plan_meaning.specs.Bindings.{gained, binding as items_between}
+use Rattle.lrc_plan_meaning.specs.Sound.{handed_in, IsSound}
+use Rattle.lrc_plan_meaning.proofs.ItemLemmas.{contained, among}
 use Rattle.lrc_visit_meaning.specs.Values.{value, binding, no_data, data_row, data_list, value_in, Call, Result}
 use Rattle.lrc_visit_meaning.specs.Visits.{Held, nothing_held, holding, Given, Walked, walk, are_of_kinds, is_of_kind, tree_at, call_of, given_by, held_at_start, result_of, evaluated, step, visit_of_node, visit_of_tree, one_visit, plain_visit}
 use Rattle.std.proofs.lemmas.List.Folds.{flat_map-map}
 use Rattle.std.proofs.lemmas.Simd.{map-map}
-use Rattle.lrc_order.proofs.MemberLemmas.{member_first, member_later, member_cases, no_member, member_map, member_flat, member_of_flat, member_range, member_of_range}
+use Rattle.lrc_order_meaning.proofs.MemberLemmas.{member_first, member_later, member_cases, no_member, member_map, member_flat, member_of_flat, member_range, member_of_range}
 use Rattle.lrc_plan.proofs.ListLemmas.{map_agree, map_told, map_flat, flat_agree}
 use Rattle.lrc_laws.proofs.FuelLemmas.{mapped, bound_by, where_true}
 use Rattle.lrc_laws.proofs.HeldLemmas.{Agree, holding_agrees, IsMade}

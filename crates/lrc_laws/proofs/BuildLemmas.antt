@@ -15,12 +15,12 @@ use Rattle.lrc_meaning.specs.Grammar.{Grammar, attrs_of_sort, attrs_of, symbol_o
 use Rattle.lrc_meaning.specs.Attribution.{Decorated, at_node, Parts, end, symbol, bare, bare_kids, attributes_of, production_of, kid_values, extra_values, occurrence_values, leaf_at, kids_agree, extras_agree, Holds, IsRight, AreRight, height, highest}
 use Rattle.lrc_meaning.specs.Attribution as m
 use Rattle.lrc_meaning.proofs.KindLemmas.{left_kind}
-use Rattle.lrc_order.specs.declared.Place.{Place}
-use Rattle.lrc_order.specs.declared.Partition.{Partition}
-use Rattle.lrc_order.specs.Needs.{symbol_of, kid_symbols, extra_symbols, kid_count, extra_count}
-use Rattle.lrc_sequence.specs.declared.Action.TheVariants as a
-use Rattle.lrc_sequence.specs.declared.Bound.TheVariants as b
-use Rattle.lrc_sequence.specs.Items.{visits_of, attrs_of_visit, symbol_at}
+use Rattle.lrc_order_meaning.specs.declared.Place.{Place}
+use Rattle.lrc_order_meaning.specs.declared.Partition.{Partition}
+use Rattle.lrc_order_meaning.specs.Needs.{symbol_of, kid_symbols, extra_symbols, kid_count, extra_count}
+use Rattle.lrc_plan_meaning.specs.declared.Action.TheVariants as a
+use Rattle.lrc_plan_meaning.specs.declared.Bound.TheVariants as b
+use Rattle.lrc_plan_meaning.specs.Items.{visits_of, attrs_of_visit, symbol_at}
 use Rattle.lrc_visit_meaning.specs.Values.{value, binding, value_in, binding_in, no_tree, Call, Result}
 use Rattle.lrc_visit_meaning.specs.Visits.{Held, Given, is_of_kind, are_of_kinds, symbol_trees, evaluated, tree_at, call_of, given_by, step}
 use Rattle.std.proofs.lemmas.Simd.{map-map}

@@ -18,19 +18,19 @@ use Rattle.lrc_meaning.specs.Attribution.{Decorated, at_node, Parts, end, symbol
 use Rattle.lrc_meaning.specs.Attribution as m
 use Rattle.lrc_meaning.proofs.KindLemmas.{left_kind}
 use Rattle.lrc_meaning.proofs.ListLemmas.{slice_left, slice_right}
-use Rattle.lrc_order.specs.declared.Place.{Place}
-use Rattle.lrc_order.specs.declared.Partition.{Partition}
-use Rattle.lrc_order.specs.Needs.{symbols_of, kid_symbols, extra_symbols, own_end, kids_end, left_place}
-use Rattle.lrc_sequence.specs.declared.Action.TheVariants as a
-use Rattle.lrc_sequence.specs.declared.Bound.TheVariants as b
-use Rattle.lrc_sequence.specs.Items.{symbol_at}
-use Rattle.lrc_sequence.specs.Bindings.{binding as items_between}
-use Rattle.lrc_sequence.specs.Sound.{IsSound, IsVisitThere}
+use Rattle.lrc_order_meaning.specs.declared.Place.{Place}
+use Rattle.lrc_order_meaning.specs.declared.Partition.{Partition}
+use Rattle.lrc_order_meaning.specs.Needs.{symbols_of, kid_symbols, extra_symbols, own_end, kids_end, left_place}
+use Rattle.lrc_plan_meaning.specs.declared.Action.TheVariants as a
+use Rattle.lrc_plan_meaning.specs.declared.Bound.TheVariants as b
+use Rattle.lrc_plan_meaning.specs.Items.{symbol_at}
+use Rattle.lrc_plan_meaning.specs.Bindings.{binding as items_between}
+use Rattle.lrc_plan_meaning.specs.Sound.{IsSound, IsVisitThere}
 use Rattle.lrc_visit_meaning.specs.Values.{value, Data, data_row, value_in, no_tree, Call, Result}
 use Rattle.lrc_visit_meaning.specs.Visits.{Held, values_in, leaf_in, symbol_trees, equation_of, evaluated, tree_at, is_of_kind, step, one_visit, plain_visit}
 pub use Rattle.lrc_visit_meaning.specs.Shown.{no_bound, held_of, bound_of, bounds_of, face_of, node_held}
 use Rattle.lrc_visit_meaning.specs.Shown.{no_height, visit_height, heights_of}
-use Rattle.lrc_order.proofs.MemberLemmas.{member_slice, slice_of_member}
+use Rattle.lrc_order_meaning.proofs.MemberLemmas.{member_slice, slice_of_member}
 use Rattle.lrc_laws.proofs.FuelLemmas.{max_left, max_right}
 use Rattle.lrc_laws.proofs.HeldLemmas.{IsMade}
 use Rattle.lrc_laws.proofs.ReadLemmas.{found_there, value_same}

@@ -9,12 +9,12 @@ use Rattle.lrc_meaning.specs.Tree.{Tree, node, is_left}
 use Rattle.lrc_meaning.specs.Grammar.{Grammar, attrs_of_sort, is_well_formed}
 use Rattle.lrc_meaning.specs.Attribution.{Decorated, at_node, Parts, bare, bare_kids, production_of, occurrence_values, IsNodeRight, IsRight, AreRight, height, highest}
 use Rattle.lrc_meaning.proofs.KindLemmas.{left_kind}
-use Rattle.lrc_order.specs.declared.Partition.{Partition}
-use Rattle.lrc_sequence.specs.declared.Action.{Action}
-use Rattle.lrc_sequence.specs.declared.Action.TheVariants as a
-use Rattle.lrc_sequence.specs.Items.{symbol_at, makes, visits_of}
-use Rattle.lrc_sequence.specs.Sequences.{segment}
-use Rattle.lrc_sequence.specs.Sound.{IsDone, IsSound, handed_in}
+use Rattle.lrc_order_meaning.specs.declared.Partition.{Partition}
+use Rattle.lrc_plan_meaning.specs.declared.Action.{Action}
+use Rattle.lrc_plan_meaning.specs.declared.Action.TheVariants as a
+use Rattle.lrc_plan_meaning.specs.Items.{symbol_at, makes, visits_of}
+use Rattle.lrc_plan_meaning.specs.Sequences.{segment}
+use Rattle.lrc_plan_meaning.specs.Sound.{IsDone, IsSound, handed_in}
 use Rattle.lrc_visit_meaning.specs.Values.{value, Call, Result}
 use Rattle.lrc_visit_meaning.specs.Visits.{Held, Given, Walked, walk, evaluated, tree_at, call_of, given_by, is_of_kind, held_at_start, result_of, step, visit_of_node, one_visit, plain_visit}
 use Rattle.lrc_visit_meaning.specs.Shown.{no_height, highest_visit, answer, visit_height, heights_of}

@@ -12,7 +12,7 @@ use Rattle.lrc_meaning.specs.Expression.{expression}
 use Rattle.lrc_meaning.specs.Tree.{same_kind}
 use Rattle.lrc_meaning.specs.Grammar.{Grammar, Occurrence, occurrences_of, expression_kind, is_equation_right, is_defined_once, is_production_right, is_well_formed}
 use Rattle.lrc_meaning.proofs.ListLemmas.{list_all-at, list_all-range}
-use Rattle.lrc_sequence.specs.Sequences.{is_defined}
+use Rattle.lrc_plan_meaning.specs.Sequences.{is_defined}
 use Rattle.lrc_visit_meaning.specs.Visits.{equation_of}
 
 module _ {X : Type 0} (p : X → Bool) where

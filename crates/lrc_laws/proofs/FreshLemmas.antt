@@ -7,17 +7,17 @@ use Rattle.std.proofs.lemmas.Option.{same_Some}
 use Rattle.std.proofs.lemmas.List.Elements.{All-contains, Contains-append_left, Contains-append_right, Contains-append_cases}
 use Rattle.lrc_base.specs.declared.grammar.Sort.{Sort}
 use Rattle.lrc_base.specs.declared.grammar.Production.{Production}
-use Rattle.lrc_order.specs.declared.Partition.{Partition}
-use Rattle.lrc_sequence.specs.declared.Action.{Action}
-use Rattle.lrc_sequence.specs.declared.Bound.{Bound}
-use Rattle.lrc_sequence.specs.Items.{same_item, visits_of, values_of_visit, needs, makes}
-use Rattle.lrc_sequence.specs.Sequences.{segment}
-use Rattle.lrc_sequence.specs.Bindings.{gained, binding as items_between}
-use Rattle.lrc_sequence.specs.Sound.{AreReady, handed_in, IsSound}
-use Rattle.lrc_sequence.proofs.ItemLemmas.{item_itself}
+use Rattle.lrc_order_meaning.specs.declared.Partition.{Partition}
+use Rattle.lrc_plan_meaning.specs.declared.Action.{Action}
+use Rattle.lrc_plan_meaning.specs.declared.Bound.{Bound}
+use Rattle.lrc_plan_meaning.specs.Items.{same_item, visits_of, values_of_visit, needs, makes}
+use Rattle.lrc_plan_meaning.specs.Sequences.{segment}
+use Rattle.lrc_plan_meaning.specs.Bindings.{gained, binding as items_between}
+use Rattle.lrc_plan_meaning.specs.Sound.{AreReady, handed_in, IsSound}
+use Rattle.lrc_plan_meaning.proofs.ItemLemmas.{item_itself}
 use Rattle.lrc_visit_meaning.specs.Values.{Datum}
 use Rattle.lrc_visit_meaning.specs.Visits.{Held, Given, Walked, holding, walk}
-use Rattle.lrc_order.proofs.MemberLemmas.{member_cases, no_member, member_of_flat, member_of_range}
+use Rattle.lrc_order_meaning.proofs.MemberLemmas.{member_cases, no_member, member_of_flat, member_of_range}
 use Rattle.lrc_plan.proofs.ListLemmas.{map_agree}
 use Rattle.lrc_plan.proofs.DistinctLemmas.{Distinct, distinct_pairs, distinct_right, distinct_left, apart, apart_by_number, distinct_at}
 use Rattle.lrc_laws.proofs.FuelLemmas.{bound_by, walked_on}

@@ -6,12 +6,12 @@ use Rattle.lrc_base.specs.declared.grammar.Kind.TheVariants as k
 use Rattle.lrc_base.specs.declared.grammar.Production.{Production}
 use Rattle.lrc_meaning.specs.Tree.{Tree, int, bool, name, node, Trees}
 use Rattle.lrc_meaning.specs.Grammar.{Grammar}
-use Rattle.lrc_order.specs.declared.Partition.{Partition}
-use Rattle.lrc_sequence.specs.declared.Action.{Action}
-use Rattle.lrc_sequence.specs.declared.Action.TheVariants as a
-use Rattle.lrc_sequence.specs.declared.Bound.{Bound}
-use Rattle.lrc_sequence.specs.Items.{symbol_at, makes}
-use Rattle.lrc_sequence.specs.Sequences.{segment}
+use Rattle.lrc_order_meaning.specs.declared.Partition.{Partition}
+use Rattle.lrc_plan_meaning.specs.declared.Action.{Action}
+use Rattle.lrc_plan_meaning.specs.declared.Action.TheVariants as a
+use Rattle.lrc_plan_meaning.specs.declared.Bound.{Bound}
+use Rattle.lrc_plan_meaning.specs.Items.{symbol_at, makes}
+use Rattle.lrc_plan_meaning.specs.Sequences.{segment}
 use Rattle.lrc_visit_meaning.specs.Values.{Call, Result}
 pub use Rattle.lrc_visit_meaning.specs.Visits.{walked_on}
 use Rattle.lrc_visit_meaning.specs.Visits.{Held, Given, Walked, walk, is_of_kind, are_of_kinds, tree_at, call_of, given_by, held_at_start, result_of, evaluated, step, visit_of_node, visit_of_tree, plain_visit}

@@ -7,15 +7,15 @@ use Rattle.std.proofs.lemmas.Option.{same_Some}
 use Rattle.std.proofs.lemmas.List.Elements.{All-contains, Contains-append_left, Contains-append_right, Contains-append_cases}
 use Rattle.lrc_base.specs.declared.grammar.Sort.{Sort}
 use Rattle.lrc_base.specs.declared.grammar.Production.{Production}
-use Rattle.lrc_order.specs.declared.Partition.{Partition}
-use Rattle.lrc_sequence.specs.declared.Action.{Action}
-use Rattle.lrc_sequence.specs.declared.Bound.{Bound}
-use Rattle.lrc_sequence.specs.Items.{same_item, needs, makes}
-use Rattle.lrc_sequence.specs.Sound.{AreReady}
-use Rattle.lrc_sequence.proofs.ItemLemmas.{same_items, item_itself}
+use Rattle.lrc_order_meaning.specs.declared.Partition.{Partition}
+use Rattle.lrc_plan_meaning.specs.declared.Action.{Action}
+use Rattle.lrc_plan_meaning.specs.declared.Bound.{Bound}
+use Rattle.lrc_plan_meaning.specs.Items.{same_item, needs, makes}
+use Rattle.lrc_plan_meaning.specs.Sound.{AreReady}
+use Rattle.lrc_plan_meaning.proofs.ItemLemmas.{same_items, item_itself}
 use Rattle.lrc_visit_meaning.specs.Values.{Datum}
 use Rattle.lrc_visit_meaning.specs.Visits.{Held, Given, Walked, holding, walk}
-use Rattle.lrc_order.proofs.MemberLemmas.{member_first, member_later, member_cases, no_member}
+use Rattle.lrc_order_meaning.proofs.MemberLemmas.{member_first, member_later, member_cases, no_member}
 use Rattle.lrc_plan.proofs.ListLemmas.{map_told}
 use Rattle.lrc_laws.proofs.FuelLemmas.{walked_on}
 

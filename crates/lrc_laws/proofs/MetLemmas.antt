@@ -11,18 +11,18 @@ use Rattle.lrc_base.specs.declared.grammar.Production.{Production}
 use Rattle.lrc_meaning.specs.Tree.{Tree, Trees}
 use Rattle.lrc_meaning.specs.Expression.{Expression, literal, occurrence, leaf, binary, choice, make, Expressions, no_more, and_more, expression, bool_in, value_of}
 use Rattle.lrc_meaning.specs.Grammar.{Grammar, occurrences_of}
-use Rattle.lrc_order.specs.declared.Partition.{Partition}
-use Rattle.lrc_order.specs.Needs.{reads, reads_of_each}
-use Rattle.lrc_sequence.specs.declared.Action.{Action}
-use Rattle.lrc_sequence.specs.declared.Action.TheVariants as a
-use Rattle.lrc_sequence.specs.declared.Bound.{Bound}
-use Rattle.lrc_sequence.specs.declared.Bound.TheVariants as b
-use Rattle.lrc_sequence.specs.Items.{symbol_at, needs, makes}
-use Rattle.lrc_sequence.specs.Sound.{AreReady}
+use Rattle.lrc_order_meaning.specs.declared.Partition.{Partition}
+use Rattle.lrc_order_meaning.specs.Needs.{reads, reads_of_each}
+use Rattle.lrc_plan_meaning.specs.declared.Action.{Action}
+use Rattle.lrc_plan_meaning.specs.declared.Action.TheVariants as a
+use Rattle.lrc_plan_meaning.specs.declared.Bound.{Bound}
+use Rattle.lrc_plan_meaning.specs.declared.Bound.TheVariants as b
+use Rattle.lrc_plan_meaning.specs.Items.{symbol_at, needs, makes}
+use Rattle.lrc_plan_meaning.specs.Sound.{AreReady}
 use Rattle.lrc_visit_meaning.specs.Values.{value_in, Call, Result}
 use Rattle.lrc_visit_meaning.specs.Visits.{Held, Given, Walked, walked_on, holding, walk, values_in, leaf_in, equation_of, tree_at, call_of, is_of_kind}
 use Rattle.lrc_visit_meaning.specs.Demand.{Met, built, built_in, built_in_each, walk_met, equation_met, action_met}
-use Rattle.lrc_order.proofs.MemberLemmas.{member_first, member_later}
+use Rattle.lrc_order_meaning.proofs.MemberLemmas.{member_first, member_later}
 use Rattle.lrc_laws.proofs.HeldLemmas.{Agree, agree_part, agree_held, ReadsNeeds, AreMade}
 use Rattle.lrc_laws.proofs.ReadLemmas.{value_same, slice_same, found_there, read_needed, same_tree_at, same_call}
 

@@ -8,21 +8,21 @@ use Rattle.lrc_base.specs.declared.grammar.Kind.TheVariants as k
 use Rattle.lrc_base.specs.declared.grammar.Production.{Production}
 use Rattle.lrc_meaning.specs.Tree.{Tree, Trees, node}
 use Rattle.lrc_meaning.specs.Grammar.{Grammar, attrs_of_sort}
-use Rattle.lrc_order.specs.declared.Place.{Place}
-use Rattle.lrc_order.specs.declared.Partition.{Partition}
-use Rattle.lrc_sequence.specs.declared.Action.{Action}
-use Rattle.lrc_sequence.specs.declared.Action.TheVariants as a
-use Rattle.lrc_sequence.specs.declared.Bound.TheVariants as b
-use Rattle.lrc_sequence.specs.Items.{visits_of, visit_of, is_of, values_of_visit, attrs_of_visit, symbol_at, makes}
-use Rattle.lrc_sequence.specs.Sequences.{segment}
-use Rattle.lrc_sequence.specs.Bindings.{binding as items_between}
-use Rattle.lrc_sequence.specs.Sound.{handed_in, IsDone, IsSound}
+use Rattle.lrc_order_meaning.specs.declared.Place.{Place}
+use Rattle.lrc_order_meaning.specs.declared.Partition.{Partition}
+use Rattle.lrc_plan_meaning.specs.declared.Action.{Action}
+use Rattle.lrc_plan_meaning.specs.declared.Action.TheVariants as a
+use Rattle.lrc_plan_meaning.specs.declared.Bound.TheVariants as b
+use Rattle.lrc_plan_meaning.specs.Items.{visits_of, visit_of, is_of, values_of_visit, attrs_of_visit, symbol_at, makes}
+use Rattle.lrc_plan_meaning.specs.Sequences.{segment}
+use Rattle.lrc_plan_meaning.specs.Bindings.{binding as items_between}
+use Rattle.lrc_plan_meaning.specs.Sound.{handed_in, IsDone, IsSound}
 use Rattle.lrc_visit_meaning.specs.Values.{Datum, value, binding, data_row, data_list, value_in, binding_in, Call, Result}
 use Rattle.lrc_visit_meaning.specs.Visits.{Held, nothing_held, holding, Walked, walk, are_of_kinds, is_of_kind, tree_at, call_of, given_by, held_at_start, result_of, step, visit_of_node, one_visit}
 pub use Rattle.lrc_visit_meaning.specs.Shown.{Face, asked}
 use Rattle.std.proofs.lemmas.List.Folds.{flat_map-map}
 use Rattle.std.proofs.lemmas.Simd.{map-map}
-use Rattle.lrc_order.proofs.MemberLemmas.{member_map, member_of_filter, member_of_range}
+use Rattle.lrc_order_meaning.proofs.MemberLemmas.{member_map, member_of_filter, member_of_range}
 use Rattle.lrc_plan.proofs.ListLemmas.{map_agree, map_flat, flat_agree}
 use Rattle.lrc_laws.proofs.HeldLemmas.{Agree, agree_part, holding_agrees, IsMade, walk_follows}
 use Rattle.lrc_laws.proofs.ReadLemmas.{step_reads}

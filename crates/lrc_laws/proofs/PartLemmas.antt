@@ -14,11 +14,11 @@ use Rattle.lrc_meaning.specs.Tree.{Tree, int, bool, name, node, Trees, is_sort, 
 use Rattle.lrc_meaning.specs.Grammar.{Grammar, attrs_of_sort, attrs_of, symbol_occurrence, extra_occurrences}
 use Rattle.lrc_meaning.specs.Attribution.{Decorated, at_node, Parts, end, value, symbol, bare, bare_kids, attributes_of, production_of, kid_values, extra_values, leaf_at, kids_agree, extras_agree, IsRight, AreRight, height, highest}
 use Rattle.lrc_meaning.proofs.KindLemmas.{left_kind}
-use Rattle.lrc_order.specs.declared.Place.{Place}
-use Rattle.lrc_order.specs.Needs.{symbol_of, kid_symbols, extra_symbols}
+use Rattle.lrc_order_meaning.specs.declared.Place.{Place}
+use Rattle.lrc_order_meaning.specs.Needs.{symbol_of, kid_symbols, extra_symbols}
 use Rattle.lrc_visit_meaning.specs.Values.{no_tree}
 use Rattle.lrc_visit_meaning.specs.Visits.{is_of_kind, are_of_kinds, leaf_in, symbol_trees}
-use Rattle.lrc_order.proofs.MemberLemmas.{member_cases, no_member}
+use Rattle.lrc_order_meaning.proofs.MemberLemmas.{member_cases, no_member}
 use Rattle.lrc_laws.proofs.FuelLemmas.{max_left, max_right}
 
 -- the decorated trees among parts, in order

@@ -11,12 +11,12 @@ use Rattle.lrc_base.specs.declared.grammar.Kind.TheVariants as k
 use Rattle.lrc_base.specs.declared.grammar.Sort.{Sort}
 use Rattle.lrc_meaning.specs.Grammar.{Grammar, attrs_of_sort, is_well_formed}
 use Rattle.lrc_meaning.proofs.ListLemmas.{list_all-at}
-use Rattle.lrc_order.specs.declared.Partition.{Partition}
-use Rattle.lrc_order.specs.Sets.{HasTurn, CanStand, Placed}
-use Rattle.lrc_order.specs.Ordered.{IsGivenThere, Partitions, ArePartitions}
-use Rattle.lrc_order.proofs.TransitiveLemmas.{has_place}
-use Rattle.lrc_sequence.specs.Items.{visit_of, visits_of}
-use Rattle.lrc_order.proofs.MemberLemmas.{member_range}
+use Rattle.lrc_order_meaning.specs.declared.Partition.{Partition}
+use Rattle.lrc_order_meaning.specs.Sets.{HasTurn, CanStand, Placed}
+use Rattle.lrc_order_meaning.specs.Ordered.{IsGivenThere, Partitions, ArePartitions}
+use Rattle.lrc_order_meaning.proofs.TransitiveLemmas.{has_place}
+use Rattle.lrc_plan_meaning.specs.Items.{visit_of, visits_of}
+use Rattle.lrc_order_meaning.proofs.MemberLemmas.{member_range}
 use Rattle.lrc_laws.proofs.AlikeLemmas.{AreVisited}
 use Rattle.lrc_laws.proofs.BuildLemmas.{AreSome}
 

@@ -16,17 +16,17 @@ use Rattle.lrc_meaning.specs.Grammar.{Grammar, extra_occurrences, is_well_formed
 use Rattle.lrc_meaning.specs.Attribution.{Decorated, at_node, Parts, end, symbol, bare, bare_kids, production_of, occurrence_values, leaf_at, extras_agree, IsNodeRight, IsRight, AreRight, height, highest}
 use Rattle.lrc_meaning.specs.Attribution as m
 use Rattle.lrc_meaning.proofs.KindLemmas.{left_kind}
-use Rattle.lrc_order.specs.declared.Partition.{Partition}
-use Rattle.lrc_order.specs.Needs.{symbol_of, extra_symbols, symbols_of, own_end, kids_end, kid_symbols}
-use Rattle.lrc_sequence.specs.declared.Action.{Action}
-use Rattle.lrc_sequence.specs.declared.Action.TheVariants as a
-use Rattle.lrc_sequence.specs.Items.{symbol_at, visits_of}
-use Rattle.lrc_sequence.specs.Sequences.{segment}
-use Rattle.lrc_sequence.specs.Sound.{IsDone, IsSound}
+use Rattle.lrc_order_meaning.specs.declared.Partition.{Partition}
+use Rattle.lrc_order_meaning.specs.Needs.{symbol_of, extra_symbols, symbols_of, own_end, kids_end, kid_symbols}
+use Rattle.lrc_plan_meaning.specs.declared.Action.{Action}
+use Rattle.lrc_plan_meaning.specs.declared.Action.TheVariants as a
+use Rattle.lrc_plan_meaning.specs.Items.{symbol_at, visits_of}
+use Rattle.lrc_plan_meaning.specs.Sequences.{segment}
+use Rattle.lrc_plan_meaning.specs.Sound.{IsDone, IsSound}
 use Rattle.lrc_visit_meaning.specs.Visits.{leaf_in, equation_of, values_in, tree_at, call_of, is_of_kind}
 use Rattle.lrc_visit_meaning.specs.Shown.{answer, visit_height}
 use Rattle.lrc_visit_meaning.specs.Demand.{Met, called, answered, built, equation_met, action_met, reach, visit_met, own_met, demand, demands}
-use Rattle.lrc_order.proofs.MemberLemmas.{member_first, member_later, member_cases, no_member, member_flat, member_of_flat, member_range, member_of_range, slice_of_member}
+use Rattle.lrc_order_meaning.proofs.MemberLemmas.{member_first, member_later, member_cases, no_member, member_flat, member_of_flat, member_range, member_of_range, slice_of_member}
 use Rattle.lrc_laws.proofs.FuelLemmas.{max_left, max_right}
 use Rattle.lrc_laws.proofs.ReadLemmas.{found_there}
 use Rattle.lrc_laws.proofs.NodeLemmas.{asked}

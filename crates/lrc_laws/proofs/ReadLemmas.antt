@@ -11,17 +11,17 @@ use Rattle.lrc_base.specs.declared.grammar.Production.{Production}
 use Rattle.lrc_meaning.specs.Tree.{Tree, Trees, more, node}
 use Rattle.lrc_meaning.specs.Expression.{Expression, literal, occurrence, leaf, binary, choice, make, Expressions, no_more, and_more, expression, value_of, values_of, operated, chosen, bool_in}
 use Rattle.lrc_meaning.specs.Grammar.{Grammar, occurrences_of}
-use Rattle.lrc_order.specs.declared.Need.{Need}
-use Rattle.lrc_order.specs.declared.Place.{Place}
-use Rattle.lrc_order.specs.declared.Partition.{Partition}
-use Rattle.lrc_order.specs.Needs.{need, reads, reads_of_each, equation_needs}
-use Rattle.lrc_sequence.specs.declared.Action.TheVariants as a
-use Rattle.lrc_sequence.specs.declared.Bound.{Bound}
-use Rattle.lrc_sequence.specs.declared.Bound.TheVariants as b
-use Rattle.lrc_sequence.specs.Items.{symbol_at, needs, tree_of, values_of_visit, firsts_of}
+use Rattle.lrc_order_meaning.specs.declared.Need.{Need}
+use Rattle.lrc_order_meaning.specs.declared.Place.{Place}
+use Rattle.lrc_order_meaning.specs.declared.Partition.{Partition}
+use Rattle.lrc_order_meaning.specs.Needs.{need, reads, reads_of_each, equation_needs}
+use Rattle.lrc_plan_meaning.specs.declared.Action.TheVariants as a
+use Rattle.lrc_plan_meaning.specs.declared.Bound.{Bound}
+use Rattle.lrc_plan_meaning.specs.declared.Bound.TheVariants as b
+use Rattle.lrc_plan_meaning.specs.Items.{symbol_at, needs, tree_of, values_of_visit, firsts_of}
 use Rattle.lrc_visit_meaning.specs.Values.{value, value_in, binding_in, Call, Result, no_tree}
 use Rattle.lrc_visit_meaning.specs.Visits.{Held, values_in, leaf_in, equation_of, values_at, tree_at, call_of, given_by, is_of_kind, symbol_trees, step}
-use Rattle.lrc_order.proofs.MemberLemmas.{member_first, member_later, member_map, member_flat, member_filter}
+use Rattle.lrc_order_meaning.proofs.MemberLemmas.{member_first, member_later, member_map, member_flat, member_filter}
 use Rattle.lrc_plan.proofs.ListLemmas.{map_agree}
 use Rattle.lrc_laws.proofs.HeldLemmas.{Agree, agree_left, agree_right, ReadsNeeds}
 

@@ -14,9 +14,9 @@ use Rattle.lrc_meaning.specs.Tree.{Tree, is_left, fits}
 use Rattle.lrc_meaning.specs.Grammar.{Grammar, attrs_of_sort, is_well_formed}
 use Rattle.lrc_meaning.specs.Attribution.{Decorated, bare, attributes_of, production_of, IsAttribution, height, synthesised, Attributes}
 use Rattle.lrc_meaning.proofs.KindLemmas.{left_kind}
-use Rattle.lrc_order.specs.Ordered.{IsGivenThere, Partitions, ArePartitions}
-use Rattle.lrc_sequence.specs.Items.{is_of, visit_of, visits_of, attrs_of_visit}
-use Rattle.lrc_sequence.specs.Sound.{IsSound}
+use Rattle.lrc_order_meaning.specs.Ordered.{IsGivenThere, Partitions, ArePartitions}
+use Rattle.lrc_plan_meaning.specs.Items.{is_of, visit_of, visits_of, attrs_of_visit}
+use Rattle.lrc_plan_meaning.specs.Sound.{IsSound}
 use Rattle.lrc_visit_meaning.specs.Values.{Result, no_data, no_tree, root_call}
 use Rattle.lrc_visit_meaning.specs.Visits.{is_of_kind, plain_visit}
 use Rattle.lrc_laws.specs.Laws.{RootGives}

@@ -2,7 +2,7 @@
 use Rattle.std.proofs.lemmas.List.Elements.{Contains-get_or}
 use Rattle.std.specs.Prelude.{slice_index_or}
 use Rattle.lrc_meaning.specs.Grammar.{Grammar}
-use Rattle.lrc_order.specs.Ordered.{Partitions}
+use Rattle.lrc_order_meaning.specs.Ordered.{Partitions}
 use Rattle.lrc_plan.proofs.SoundLemmas.{ordered_is_sound}
 use Rattle.lrc_laws.specs.Laws.{HasOrder}
 use Rattle.lrc_laws.proofs.RootLemmas.{HasSoundPlan}

@@ -20,16 +20,16 @@ use Rattle.lrc_meaning.specs.Grammar.{Grammar, attrs_of_sort, attrs_of, own_occu
 use Rattle.lrc_meaning.specs.Attribution.{Decorated, at_node, bare, attributes_of, production_of, kid_values, extra_values, occurrence_values, leaf_at, Holds, IsNodeRight, IsRight, height}
 use Rattle.lrc_meaning.proofs.KindLemmas.{left_kind}
 use Rattle.lrc_meaning.proofs.ListLemmas.{all_from_places}
-use Rattle.lrc_order.specs.declared.Place.{Place}
-use Rattle.lrc_order.specs.declared.Partition.{Partition}
-use Rattle.lrc_order.specs.Needs.{symbol_of, kid_symbols, extra_symbols, symbols_of, left_place, own_end, kids_end, kid_count, extra_count}
-use Rattle.lrc_sequence.specs.declared.Action.TheVariants as a
-use Rattle.lrc_sequence.specs.declared.Bound.TheVariants as b
-use Rattle.lrc_sequence.specs.Items.{visits_of, symbol_at}
-use Rattle.lrc_sequence.specs.Sequences.{is_defined}
+use Rattle.lrc_order_meaning.specs.declared.Place.{Place}
+use Rattle.lrc_order_meaning.specs.declared.Partition.{Partition}
+use Rattle.lrc_order_meaning.specs.Needs.{symbol_of, kid_symbols, extra_symbols, symbols_of, left_place, own_end, kids_end, kid_count, extra_count}
+use Rattle.lrc_plan_meaning.specs.declared.Action.TheVariants as a
+use Rattle.lrc_plan_meaning.specs.declared.Bound.TheVariants as b
+use Rattle.lrc_plan_meaning.specs.Items.{visits_of, symbol_at}
+use Rattle.lrc_plan_meaning.specs.Sequences.{is_defined}
 use Rattle.lrc_visit_meaning.specs.Values.{value_in, no_tree}
 use Rattle.lrc_visit_meaning.specs.Visits.{Held, is_of_kind, are_of_kinds, leaf_in, symbol_trees, values_in, equation_of, evaluated, tree_at, one_visit, plain_visit}
-use Rattle.lrc_order.proofs.MemberLemmas.{member_of_range}
+use Rattle.lrc_order_meaning.proofs.MemberLemmas.{member_of_range}
 use Rattle.lrc_plan.proofs.ListLemmas.{map_agree}
 use Rattle.lrc_laws.proofs.ReadLemmas.{value_same}
 use Rattle.lrc_laws.proofs.NodeLemmas.{Face, Serves, ServesOne, symbol_face}

@@ -14,13 +14,13 @@ use Rattle.lrc_base.specs.declared.grammar.Production.{Production}
 use Rattle.lrc_meaning.specs.Tree.{Tree, is_sort, same_kind, is_left, fits}
 use Rattle.lrc_meaning.specs.Grammar.{Grammar, Occurrence, attrs_of_sort, occurrences_of, is_well_formed}
 use Rattle.lrc_meaning.specs.Attribution.{Decorated, at_node, Parts, end, value, symbol, bare, bare_kids, attributes_of, production_of, kid_values, extra_values, occurrence_values, kids_agree, extras_agree, IsNodeRight, IsRight, AreRight, height, highest}
-use Rattle.lrc_order.specs.declared.Partition.{Partition}
-use Rattle.lrc_sequence.specs.declared.Bound.TheVariants as b
-use Rattle.lrc_sequence.specs.Items.{attrs_of_visit, values_of_visit}
+use Rattle.lrc_order_meaning.specs.declared.Partition.{Partition}
+use Rattle.lrc_plan_meaning.specs.declared.Bound.TheVariants as b
+use Rattle.lrc_plan_meaning.specs.Items.{attrs_of_visit, values_of_visit}
 use Rattle.lrc_visit_meaning.specs.Values.{value_in, no_tree}
 use Rattle.lrc_visit_meaning.specs.Values.{value as datum}
 use Rattle.lrc_visit_meaning.specs.Visits.{Held, plain_visit}
-use Rattle.lrc_order.proofs.MemberLemmas.{member_of_map}
+use Rattle.lrc_order_meaning.proofs.MemberLemmas.{member_of_map}
 use Rattle.lrc_laws.proofs.FuelLemmas.{max_left, max_right}
 use Rattle.lrc_laws.proofs.HeldLemmas.{Agree}
 use Rattle.lrc_laws.proofs.NodeLemmas.{AllMade}

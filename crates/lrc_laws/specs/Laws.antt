@@ -4,9 +4,9 @@ use Rattle.lrc_base.specs.declared.grammar.Kind.TheVariants as k
 use Rattle.lrc_meaning.specs.Tree.{Tree, fits}
 use Rattle.lrc_meaning.specs.Grammar.{Grammar, is_well_formed}
 use Rattle.lrc_meaning.specs.Attribution.{Decorated, IsAttribution, height, Attributes}
-use Rattle.lrc_order.specs.declared.Partition.{Partition}
-use Rattle.lrc_order.specs.Ordered.{IsGivenThere, IsOrdered, Partitions, ArePartitions}
-use Rattle.lrc_sequence.specs.Sound.{IsSound}
+use Rattle.lrc_order_meaning.specs.declared.Partition.{Partition}
+use Rattle.lrc_order_meaning.specs.Ordered.{IsGivenThere, IsOrdered, Partitions, ArePartitions}
+use Rattle.lrc_plan_meaning.specs.Sound.{IsSound}
 use Rattle.lrc_visit_meaning.specs.Values.{Call, Result, root_call}
 use Rattle.lrc_visit_meaning.specs.Visits.{plain_visit}
 use Rattle.lrc_visit_meaning.specs.Demand.{Met, demand, reach}

@@ -6,17 +6,17 @@ use Rattle.lrc_base.specs.declared.grammar.Production.{Production}
 use Rattle.lrc_base.specs.declared.grammar.Given.{Given}
 use Rattle.std.proofs.lemmas.List.Elements.{All-weaker, All-contains}
 use Rattle.lrc_meaning.specs.Grammar.{Grammar, attrs_of_sort, occurrences_of, is_production_right, is_well_formed}
-use Rattle.lrc_order.specs.declared.Need.{Need}
-use Rattle.lrc_order.specs.Ordered.{IsSmall, IsGivenThere}
-use Rattle.lrc_order.proofs.MemberLemmas.{member_of_map}
+use Rattle.lrc_order_meaning.specs.declared.Need.{Need}
+use Rattle.lrc_order_meaning.specs.Ordered.{IsSmall, IsGivenThere}
+use Rattle.lrc_order_meaning.proofs.MemberLemmas.{member_of_map}
 use Rattle.lrc_ordered.proofs.PlaceLemmas.{places_within}
 use Rattle.lrc_ordered.proofs.RangeLemmas.{places_placed, needs_within, production_right}
 use Rattle.lrc_ordered.proofs.SettleLemmas.{all_tables}
 use Rattle.lrc_graph.specs.Pairs.{Pairs, Has, step, IsTransitive}
 use Rattle.lrc_graph.proofs.PairsLemmas.{along}
-use Rattle.lrc_order.specs.declared.Place.{Place}
-use Rattle.lrc_order.specs.Needs.{need, needs_of, places_of}
-use Rattle.lrc_order.specs.Induced.{Leads, by_need, by_sort, onward, Induced, is_given, is_joined}
+use Rattle.lrc_order_meaning.specs.declared.Place.{Place}
+use Rattle.lrc_order_meaning.specs.Needs.{need, needs_of, places_of}
+use Rattle.lrc_order_meaning.specs.Induced.{Leads, by_need, by_sort, onward, Induced, is_given, is_joined}
 use Rattle.std.proofs.lemmas.Bool.{false≢true}
 use Rattle.std.proofs.lemmas.List.{length-map}
 use Rattle.lrc_graph.specs.Pairs.{paired}

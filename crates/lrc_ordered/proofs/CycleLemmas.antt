@@ -2,7 +2,7 @@
 use Rattle.std.proofs.Common.{◌≡◌, ℕ, zero, suc, ◌+◌, ◌<◌, ◌↔◌, List, [], ◌∷◌, ap, length-take-le, All, length, get_or, slice_get, Some, sym, subst, arith, get_or-take}
 use Rattle.lrc_base.specs.declared.grammar.Production.{Production}
 use Rattle.lrc_graph.specs.Pairs.{Pairs}
-use Rattle.lrc_order.specs.Ordered.{IsAcyclic, IsFirstCycle}
+use Rattle.lrc_order_meaning.specs.Ordered.{IsAcyclic, IsFirstCycle}
 use Rattle.lrc_ordered.specs.Tables.{HasAt}
 use Rattle.lrc_ordered.specs.Cycles.{HasNoneBelow, HasNone, IsFirst}
 use Rattle.lrc_ordered.proofs.BridgeLemmas.{item_at}

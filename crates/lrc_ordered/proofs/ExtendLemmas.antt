@@ -7,14 +7,14 @@ use Rattle.lrc_base.specs.declared.grammar.Given.{Given}
 use Rattle.lrc_meaning.specs.Grammar.{Grammar, attrs_of_sort, occurrences_of, is_production_right, is_well_formed}
 use Rattle.lrc_graph.specs.Pairs.{Pairs, Has, HasExactly, step, IsTransitive}
 use Rattle.lrc_graph.proofs.PairsLemmas.{joined}
-use Rattle.lrc_order.specs.declared.Need.{Need}
-use Rattle.lrc_order.specs.declared.Place.{Place}
-use Rattle.lrc_order.specs.declared.Partition.{Partition}
-use Rattle.lrc_order.specs.Needs.{places_of}
-use Rattle.lrc_order.specs.Induced.{Leads, by_need, by_sort, onward}
-use Rattle.lrc_order.specs.Sets.{Before}
-use Rattle.lrc_order.specs.Extended.{Extended, ExtendedPath}
-use Rattle.lrc_order.specs.Ordered.{IsSmall, Partitions, ArePartitions}
+use Rattle.lrc_order_meaning.specs.declared.Need.{Need}
+use Rattle.lrc_order_meaning.specs.declared.Place.{Place}
+use Rattle.lrc_order_meaning.specs.declared.Partition.{Partition}
+use Rattle.lrc_order_meaning.specs.Needs.{places_of}
+use Rattle.lrc_order_meaning.specs.Induced.{Leads, by_need, by_sort, onward}
+use Rattle.lrc_order_meaning.specs.Sets.{Before}
+use Rattle.lrc_order_meaning.specs.Extended.{Extended, ExtendedPath}
+use Rattle.lrc_order_meaning.specs.Ordered.{IsSmall, Partitions, ArePartitions}
 use Rattle.lrc_ordered.specs.Tables.{nothing, table_at, HasAt, Closed, HandedAmong, FitsIn}
 use Rattle.lrc_ordered.specs.Setup.{AreInduced, orders_of}
 use Rattle.lrc_ordered.proofs.PlaceLemmas.{places_within}

@@ -7,9 +7,9 @@ use Rattle.lrc_base.specs.declared.expr.Op.{Op}
 use Rattle.lrc_base.specs.declared.expr.Expr.{Expr}
 use Rattle.lrc_base.specs.declared.expr.Expr.TheVariants as v
 use Rattle.lrc_meaning.proofs.ExpressionLemmas.{expression-Int, expression-Bool, expression-Name, expression-Leaf, expression-Occ, expression-Op, expression-If, expression-Make}
-use Rattle.lrc_order.specs.declared.Need.{Need}
+use Rattle.lrc_order_meaning.specs.declared.Need.{Need}
 use Rattle.lrc_meaning.specs.Expression.{expression, expression_row}
-use Rattle.lrc_order.specs.Needs.{need, reads, reads_of_each}
+use Rattle.lrc_order_meaning.specs.Needs.{need, reads, reads_of_each}
 use Rattle.lrc_grammar.proofs.FittingLemmas.{next_left}
 
 pub next_reads : (args : List Expr) (i : ℕ) (e : Expr) → i < length args → e ≡ get_or args i e

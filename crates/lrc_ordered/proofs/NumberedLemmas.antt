@@ -6,12 +6,12 @@ use Rattle.lrc_base.specs.declared.grammar.Attr.{Attr}
 use Rattle.lrc_base.specs.declared.grammar.Given.{Given}
 use Rattle.lrc_meaning.specs.Grammar.{Grammar, attrs_of_sort}
 use Rattle.lrc_graph.specs.Pairs.{Pairs, HasExactly}
-use Rattle.lrc_order.specs.Induced.{Induced}
-use Rattle.lrc_order.specs.Sets.{is_of_inherited, HasTurn, InGreatest, Placed, InSet}
-use Rattle.lrc_order.specs.Ordered.{IsGivenThere}
-use Rattle.lrc_order.proofs.SetLemmas.{placed-later}
-use Rattle.lrc_order.proofs.TransitiveLemmas.{has_place, induced_transitive}
-use Rattle.lrc_order.proofs.GreatestLemmas.{greatest_turn, turn_greatest, turn_within}
+use Rattle.lrc_order_meaning.specs.Induced.{Induced}
+use Rattle.lrc_order_meaning.specs.Sets.{is_of_inherited, HasTurn, InGreatest, Placed, InSet}
+use Rattle.lrc_order_meaning.specs.Ordered.{IsGivenThere}
+use Rattle.lrc_order_meaning.proofs.SetLemmas.{placed-later}
+use Rattle.lrc_order_meaning.proofs.TransitiveLemmas.{has_place, induced_transitive}
+use Rattle.lrc_order_meaning.proofs.GreatestLemmas.{greatest_turn, turn_greatest, turn_within}
 use Rattle.lrc_ordered.specs.Turns.{IsOf, IsNext, IsFilled}
 use Rattle.lrc_ordered.specs.Numbered.{AreNumbered}
 

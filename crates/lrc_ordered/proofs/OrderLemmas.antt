@@ -6,9 +6,9 @@ use Rattle.lrc_base.specs.declared.grammar.Sort.{Sort}
 use Rattle.lrc_base.specs.declared.grammar.Given.{Given}
 use Rattle.lrc_meaning.specs.Grammar.{Grammar, attrs_of_sort}
 use Rattle.lrc_graph.specs.Pairs.{Pairs, Has, HasExactly, IsTransitive}
-use Rattle.lrc_order.specs.Induced.{Leads, by_sort, Induced}
-use Rattle.lrc_order.specs.Ordered.{IsGivenThere, IsAcyclic}
-use Rattle.lrc_order.proofs.TransitiveLemmas.{has_place, induced_transitive}
+use Rattle.lrc_order_meaning.specs.Induced.{Leads, by_sort, Induced}
+use Rattle.lrc_order_meaning.specs.Ordered.{IsGivenThere, IsAcyclic}
+use Rattle.lrc_order_meaning.proofs.TransitiveLemmas.{has_place, induced_transitive}
 
 module _ (g : Grammar) (given : List Given) (there : All (IsGivenThere g.sorts) given) (s : ℕ) (table : Pairs) (exact : HasExactly table (Induced g given s)) where
   pub table_transitive : IsTransitive (Has table)

@@ -6,11 +6,11 @@ use Rattle.lrc_base.specs.declared.grammar.Attr.{Attr}
 use Rattle.lrc_base.specs.declared.grammar.Given.{Given}
 use Rattle.lrc_meaning.specs.Grammar.{Grammar, attrs_of_sort}
 use Rattle.lrc_graph.specs.Pairs.{Pairs, HasExactly}
-use Rattle.lrc_order.specs.declared.Partition.{Partition}
-use Rattle.lrc_order.specs.Sets.{InSet, IsVisits, Before}
-use Rattle.lrc_order.specs.Ordered.{IsPartition}
-use Rattle.lrc_order.proofs.TransitiveLemmas.{has_place}
-use Rattle.lrc_order.proofs.TurnLemmas.{placed_within}
+use Rattle.lrc_order_meaning.specs.declared.Partition.{Partition}
+use Rattle.lrc_order_meaning.specs.Sets.{InSet, IsVisits, Before}
+use Rattle.lrc_order_meaning.specs.Ordered.{IsPartition}
+use Rattle.lrc_order_meaning.proofs.TransitiveLemmas.{has_place}
+use Rattle.lrc_order_meaning.proofs.TurnLemmas.{placed_within}
 use Rattle.lrc_ordered.specs.Numbered.{IsTableOf, AreSets, ComesBefore}
 use Rattle.lrc_ordered.proofs.SetupLemmas.{map_at}
 

@@ -4,14 +4,14 @@ use Rattle.std.proofs.lemmas.List.{length-map}
 use Rattle.std.proofs.lemmas.List.Elements.{All-nil, All-cons, All-append, All-from_recursion}
 use Rattle.lrc_base.specs.declared.grammar.Kind.{Kind}
 use Rattle.lrc_base.specs.declared.grammar.Kind.TheVariants as k
-use Rattle.lrc_order.specs.declared.Place.{Place}
+use Rattle.lrc_order_meaning.specs.declared.Place.{Place}
 use Rattle.lrc_base.specs.declared.grammar.Sort.{Sort}
 use Rattle.lrc_base.specs.declared.grammar.Kid.{Kid}
 use Rattle.lrc_base.specs.declared.grammar.Extra.{Extra}
 use Rattle.lrc_base.specs.declared.grammar.Production.{Production}
 use Rattle.std.specs.List.{flat_map}
 use Rattle.lrc_meaning.specs.Grammar.{occurrences_of, own_occurrence, attrs_of_sort, attrs_of, symbol_occurrence, extra_occurrences}
-use Rattle.lrc_order.specs.Needs.{left_place, symbols_of, places_of, own_end, symbol_of, kid_symbols, extra_symbols, kid_count, extra_count, kids_end}
+use Rattle.lrc_order_meaning.specs.Needs.{left_place, symbols_of, places_of, own_end, symbol_of, kid_symbols, extra_symbols, kid_count, extra_count, kids_end}
 use Rattle.lrc_grammar.proofs.FittingLemmas.{next_left}
 use Rattle.std.specs.Prelude.{None, Some, cond}
 

@@ -18,9 +18,9 @@ use Rattle.lrc_base.specs.declared.expr.Op.TheVariants as o
 use Rattle.lrc_meaning.specs.Tree.{same_kind, is_sort}
 use Rattle.lrc_meaning.specs.Expression.{Expression, literal, occurrence, leaf, binary, choice, make, Expressions, no_more, and_more, expression}
 use Rattle.lrc_meaning.specs.Grammar.{Grammar, Occurrence, attrs_of_sort, attrs_of, extra_occurrences, occurrences_of, common_kind, of_kind, operated_kind, expression_kind, have_kinds, is_known, is_equation_right, is_production_right, is_well_formed}
-use Rattle.lrc_order.specs.declared.Need.{Need}
-use Rattle.lrc_order.specs.declared.Place.{Place}
-use Rattle.lrc_order.specs.Needs.{reads, reads_of_each, symbol_of, kid_symbols, extra_symbols, left_place, symbols_of, places_of, own_end, kids_end, occurrences_at, need, equation_needs, tree_needs, needs_of}
+use Rattle.lrc_order_meaning.specs.declared.Need.{Need}
+use Rattle.lrc_order_meaning.specs.declared.Place.{Place}
+use Rattle.lrc_order_meaning.specs.Needs.{reads, reads_of_each, symbol_of, kid_symbols, extra_symbols, left_place, symbols_of, places_of, own_end, kids_end, occurrences_at, need, equation_needs, tree_needs, needs_of}
 use Rattle.lrc_ordered.proofs.PlaceLemmas.{IsWithin, places_within}
 
 -- a list with a test that each item passes, by items

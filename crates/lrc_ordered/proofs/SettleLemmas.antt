@@ -5,7 +5,7 @@ use Rattle.std.proofs.Common.{◌≡◌, Bool, ℕ, ◌+◌, ◌<◌, false, Lis
 use Rattle.std.proofs.lemmas.List.Elements.{All-weaker}
 use Rattle.lrc_graph.specs.Pairs.{Pairs, Has, step, IsTransitive}
 use Rattle.lrc_graph.proofs.PairsLemmas.{along}
-use Rattle.lrc_order.specs.declared.Place.{Place}
+use Rattle.lrc_order_meaning.specs.declared.Place.{Place}
 use Rattle.lrc_ordered.specs.Tables.{nothing, table_at, HasAt, GatheredAll, JoinedIn, FitsIn, Closed, HandedAmong, Reached, by_table, by_place, by_path, Handed, by_sort_table, by_joining, AreTables, AreSettled}
 
 -- by the number of each table

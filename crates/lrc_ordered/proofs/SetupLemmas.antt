@@ -4,12 +4,12 @@ use Rattle.std.specs.List.{AllZip}
 use Rattle.std.proofs.lemmas.Bool.{cases_eq}
 use Rattle.lrc_base.specs.declared.grammar.Given.{Given}
 use Rattle.lrc_graph.specs.Pairs.{Pairs, Has, HasExactly, With, Path}
-use Rattle.lrc_order.specs.declared.Place.{Place}
+use Rattle.lrc_order_meaning.specs.declared.Place.{Place}
 use Rattle.lrc_ordered.specs.Tables.{table_at, HasAt}
 use Rattle.lrc_ordered.specs.Setup.{IsIn}
 use Rattle.lrc_ordered.proofs.SpreadLemmas.{path_map}
-use Rattle.lrc_order.specs.declared.Need.{Need}
-use Rattle.lrc_order.specs.Needs.{need}
+use Rattle.lrc_order_meaning.specs.declared.Need.{Need}
+use Rattle.lrc_order_meaning.specs.Needs.{need}
 use Rattle.lrc_ordered.proofs.GatherLemmas.{contains_more, set_same, set_other}
 
 zip_push : {A B : Type 0} (R : A → B → Type 0) (xs : List A) (ys : List B) (x : A) (y : B) → AllZip R xs ys → R x y → AllZip R (xs ++ x ∷ []) (ys ++ y ∷ [])

@@ -11,8 +11,8 @@ use Rattle.lrc_base.specs.declared.grammar.Kid.{Kid}
 use Rattle.lrc_base.specs.declared.grammar.Extra.{Extra}
 use Rattle.lrc_base.specs.declared.grammar.Production.{Production}
 use Rattle.lrc_meaning.specs.Grammar.{Grammar, attrs_of_sort, attrs_of, symbol_occurrence, extra_occurrences}
-use Rattle.lrc_order.specs.Needs.{kid_count, extra_count}
-use Rattle.lrc_order.specs.Ordered.{IsSmall}
+use Rattle.lrc_order_meaning.specs.Needs.{kid_count, extra_count}
+use Rattle.lrc_order_meaning.specs.Ordered.{IsSmall}
 use Rattle.lrc_grammar.specs.Limits.{has_few_attributes, has_few_parts, keeps_limits}
 use Rattle.std.proofs.lemmas.Bool.{and_parts, leb-true}
 use Rattle.lrc_ordered.proofs.RangeLemmas.{all_pass}

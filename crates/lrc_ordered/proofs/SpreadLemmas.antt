@@ -3,7 +3,7 @@ use Rattle.std.proofs.Common.{◌≡◌, ℕ, ◌+◌, ◌<◌, List, [], length
 use Rattle.std.proofs.lemmas.Bool.{cases_eq}
 use Rattle.lrc_graph.specs.Pairs.{Pairs, Has, HasExactly, With, Path, step, IsTransitive}
 use Rattle.lrc_graph.proofs.PairsLemmas.{joined, along}
-use Rattle.lrc_order.specs.declared.Place.{Place}
+use Rattle.lrc_order_meaning.specs.declared.Place.{Place}
 use Rattle.lrc_ordered.specs.Tables.{table_at, Closed, HandedAt, HandedAmong}
 use Rattle.lrc_ordered.proofs.GatherLemmas.{contains_more}
 

@@ -5,10 +5,10 @@ use Rattle.lrc_base.specs.declared.grammar.Attr.{Attr}
 use Rattle.lrc_base.specs.declared.grammar.Given.{Given}
 use Rattle.lrc_meaning.specs.Grammar.{Grammar, attrs_of_sort}
 use Rattle.lrc_graph.specs.Pairs.{Pairs, Has, IsTransitive}
-use Rattle.lrc_order.specs.Sets.{is_of_inherited, AreEnough}
-use Rattle.lrc_order.specs.Ordered.{IsAcyclic}
-use Rattle.lrc_order.proofs.SetLemmas.{placed-later}
-use Rattle.lrc_order.proofs.GreatestLemmas.{decide_pair}
+use Rattle.lrc_order_meaning.specs.Sets.{is_of_inherited, AreEnough}
+use Rattle.lrc_order_meaning.specs.Ordered.{IsAcyclic}
+use Rattle.lrc_order_meaning.proofs.SetLemmas.{placed-later}
+use Rattle.lrc_order_meaning.proofs.GreatestLemmas.{decide_pair}
 use Rattle.lrc_ordered.specs.Missing.{sum_below}
 use Rattle.lrc_ordered.specs.Turns.{IsOf, IsNext, IsFilled}
 use Rattle.lrc_ordered.specs.Numbered.{AreNumbered, IsTableOf, AreSets, IsLeft, no_set, left}

@@ -2,7 +2,7 @@
 use Rattle.std.specs.Prelude.{List, ⊤}
 use Rattle.lrc_base.specs.declared.grammar.Given.{Given}
 use Rattle.lrc_meaning.specs.Grammar.{Grammar}
-use Rattle.lrc_order.specs.Ordered.{IsInducedCycle, IsExtendedCycle}
+use Rattle.lrc_order_meaning.specs.Ordered.{IsInducedCycle, IsExtendedCycle}
 use Rattle.lrc_ordered.specs.declared.faults.OrderFault.{OrderFault}
 use Rattle.lrc_ordered.specs.declared.faults.OrderFault.TheVariants as f
 

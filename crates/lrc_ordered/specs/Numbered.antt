@@ -4,9 +4,9 @@ use Rattle.lrc_base.specs.declared.grammar.Attr.{Attr}
 use Rattle.lrc_base.specs.declared.grammar.Given.{Given}
 use Rattle.lrc_meaning.specs.Grammar.{Grammar, attrs_of_sort}
 use Rattle.lrc_graph.specs.Pairs.{Pairs, Has, HasExactly}
-use Rattle.lrc_order.specs.Induced.{Induced}
-use Rattle.lrc_order.specs.Sets.{Placed, InSet, IsVisits}
-use Rattle.lrc_order.specs.Ordered.{IsGivenThere}
+use Rattle.lrc_order_meaning.specs.Induced.{Induced}
+use Rattle.lrc_order_meaning.specs.Sets.{Placed, InSet, IsVisits}
+use Rattle.lrc_order_meaning.specs.Ordered.{IsGivenThere}
 use Rattle.lrc_ordered.specs.Missing.{sum_below}
 
 -- After k sets the number of an attribute is that of its set, or 0 where it is in none of them.

@@ -1,7 +1,7 @@
 -- Tables of pairs, one for each production or sort, and what passes over them add.
 use Rattle.std.specs.Prelude.{◌≡◌, ℕ, ◌+◌, ◌<◌, ◌≤◌, Bool, true, false, List, [], length, slice_index_or, Contains, All, ◌⊎◌, ◌↔◌}
 use Rattle.lrc_graph.specs.Pairs.{Pairs, Has, HasExactly, Path, IsTransitive}
-use Rattle.lrc_order.specs.declared.Place.{Place}
+use Rattle.lrc_order_meaning.specs.declared.Place.{Place}
 
 -- the relation over no points
 abbrev pub nothing : Pairs

@@ -6,7 +6,7 @@ ghost use Rattle.lrc_ordered.specs.Tables.{Closed, HandedAmong, FitsIn, table_at
 use crate::spread::spread_place;
 use lrc_base::List;
 use lrc_graph::Relation;
-use lrc_order::{Partition, Place};
+use lrc_order_meaning::{Partition, Place};
 
 /// Pairs the occurrences of two attributes at each place of a production, where its sort's order pairs
 /// the attributes, and closes the production's relation again.

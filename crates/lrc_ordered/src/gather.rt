@@ -4,7 +4,7 @@ ghost use Rattle.lrc_ordered.specs.Tables.{Gathered, GatheredAll, JoinedAt, Join
 
 use lrc_base::List;
 use lrc_graph::Relation;
-use lrc_order::Place;
+use lrc_order_meaning::Place;
 
 /// Pairs two attributes of a sort where a production's relation pairs their occurrences at a place
 /// that starts there. The answer is whether the pair was new.

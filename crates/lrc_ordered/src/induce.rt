@@ -1,6 +1,6 @@
 ghost use Rattle.std.specs.Prelude.{◌≡◌, ℕ, ◌<◌, ◌⊎◌, ◌↔◌, length, Contains, All, IfOk, OnOk, IfErr};
-ghost use Rattle.lrc_order.specs.Ordered.{IsSmall, IsGivenThere, IsAcyclic};
-ghost use Rattle.lrc_order.specs.Induced.{Leads};
+ghost use Rattle.lrc_order_meaning.specs.Ordered.{IsSmall, IsGivenThere, IsAcyclic};
+ghost use Rattle.lrc_order_meaning.specs.Induced.{Leads};
 ghost use Rattle.lrc_ordered.specs.Faults.{IsInducedFault};
 ghost use Rattle.lrc_grammar.specs.Grammar.{grammar_of};
 ghost use Rattle.lrc_ordered.specs.Setup.{AreInduced, IsIn};
@@ -14,7 +14,7 @@ use crate::setup::{add_given, all_needs, all_places, closed_tables, empty_tables
 use lrc_base::{Given, List, Memory};
 use lrc_grammar::Grammar;
 use lrc_graph::Relation;
-use lrc_order::{Need, Place};
+use lrc_order_meaning::{Need, Place};
 use std::alloc::Global;
 
 /// The tables of the induced dependencies of a grammar.

@@ -1,13 +1,13 @@
 ghost use Rattle.std.specs.Prelude.{◌≡◌, ◌+◌, ◌<◌, ◌≤◌, ◌^◌, ◌++◌, length, map, flat_map, IfOk, OnOk, All};
 ghost use Rattle.lrc_meaning.specs.Expression.{expression, expression_row};
 ghost use Rattle.lrc_meaning.specs.Grammar.{attrs_of_sort, occurrences_of};
-ghost use Rattle.lrc_order.specs.Needs.{need, reads, reads_of_each, equation_needs, tree_needs, needs_of, places_of};
+ghost use Rattle.lrc_order_meaning.specs.Needs.{need, reads, reads_of_each, equation_needs, tree_needs, needs_of, places_of};
 ghost use Rattle.std.specs.List.{range_with_len};
-ghost use Rattle.lrc_order.specs.declared.Place as order;
+ghost use Rattle.lrc_order_meaning.specs.declared.Place as order;
 
 use lrc_base::{Equation, Expr, List, Memory, Production, Sort};
 use lrc_grammar::attrs_of_sort;
-use lrc_order::{Need, Place};
+use lrc_order_meaning::{Need, Place};
 use std::alloc::Global;
 
 /// Puts a need of each occurrence that an expression reads behind the others.

@@ -1,6 +1,6 @@
 ghost use Rattle.std.specs.Prelude.{◌≡◌, [], All, IfOk, OnOk, IfErr};
 ghost use Rattle.lrc_grammar.specs.Grammar.{grammar_of};
-ghost use Rattle.lrc_order.specs.Ordered.{IsGivenThere, IsOrdered, ArePartitions};
+ghost use Rattle.lrc_order_meaning.specs.Ordered.{IsGivenThere, IsOrdered, ArePartitions};
 ghost use Rattle.lrc_ordered.specs.Faults.{IsOrderFault};
 
 use crate::cycles::first_cycle;

@@ -2,13 +2,13 @@ ghost use Rattle.std.specs.Prelude.{◌≡◌, ℕ, ◌+◌, ◌*◌, ◌/◌, �
 ghost use Rattle.lrc_base.specs.declared.grammar.Given as base;
 ghost use Rattle.lrc_meaning.specs.Grammar as meaning;
 ghost use Rattle.lrc_graph.specs.Pairs.{Has, HasExactly, IsTransitive};
-ghost use Rattle.lrc_order.specs.Ordered.{IsAcyclic, IsPartition};
+ghost use Rattle.lrc_order_meaning.specs.Ordered.{IsAcyclic, IsPartition};
 ghost use Rattle.lrc_ordered.specs.Numbered.{IsTableOf, ComesBefore, Added};
 
 use crate::visits::fill_sets;
 use lrc_base::{Attr, List, Memory};
 use lrc_graph::Relation;
-use lrc_order::Partition;
+use lrc_order_meaning::Partition;
 use std::alloc::Global;
 
 /// What the ordered test finds of a sort with these attributes and induced dependencies.

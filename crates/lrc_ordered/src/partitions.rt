@@ -1,15 +1,15 @@
 ghost use Rattle.std.specs.Prelude.{◌≡◌, ◌<◌, ◌↔◌, length, Some, slice_get, All, IsTrue, IfOk, IfSome};
 ghost use Rattle.lrc_graph.specs.Pairs.{Has};
 ghost use Rattle.lrc_grammar.specs.Grammar.{grammar_of};
-ghost use Rattle.lrc_order.specs.Induced.{Leads};
-ghost use Rattle.lrc_order.specs.Ordered.{IsSmall, IsGivenThere, IsAcyclic, ArePartitions};
+ghost use Rattle.lrc_order_meaning.specs.Induced.{Leads};
+ghost use Rattle.lrc_order_meaning.specs.Ordered.{IsSmall, IsGivenThere, IsAcyclic, ArePartitions};
 ghost use Rattle.lrc_ordered.specs.Setup.{AreInduced};
 
 use crate::induce::Tables;
 use crate::partition::partition;
 use lrc_base::{Given, List, Memory};
 use lrc_grammar::Grammar;
-use lrc_order::Partition;
+use lrc_order_meaning::Partition;
 use std::alloc::Global;
 use std::marker::Model;
 
@@ -22,7 +22,7 @@ pub struct Partitions {
 }
 
 impl Model for Partitions {
-    ghost use Rattle.lrc_order.specs.Ordered as order;
+    ghost use Rattle.lrc_order_meaning.specs.Ordered as order;
 
     ghost Value = { order.Partitions };
 

@@ -1,10 +1,10 @@
 ghost use Rattle.std.specs.Prelude.{◌≡◌, ◌+◌, ◌<◌, ◌^◌, ◌++◌, ◌∷◌, [], length, IfOk, OnOk};
 ghost use Rattle.lrc_meaning.specs.Grammar.{occurrences_of, extra_occurrences};
-ghost use Rattle.lrc_order.specs.Needs.{symbol_of, kid_symbols, extra_symbols, kid_count, extra_count, places_of, own_end};
+ghost use Rattle.lrc_order_meaning.specs.Needs.{symbol_of, kid_symbols, extra_symbols, kid_count, extra_count, places_of, own_end};
 
 use lrc_base::{Extra, Kid, Kind, List, Memory, Production, Sort};
 use lrc_grammar::{attrs_of, attrs_of_sort};
-use lrc_order::Place;
+use lrc_order_meaning::Place;
 use std::alloc::Global;
 
 /// Puts the place of a symbol of this kind behind the others; a leaf is no symbol.

@@ -4,7 +4,7 @@ use crate::gather::gather;
 use crate::spread::spread;
 use lrc_base::List;
 use lrc_graph::Relation;
-use lrc_order::Place;
+use lrc_order_meaning::Place;
 
 /// Adds to the tables of productions and sorts all that follows from them.
 pub fn settle(relations: &mut [Relation], sorts: &mut [Relation], places: &[List<Place>])

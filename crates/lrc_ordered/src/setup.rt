@@ -4,8 +4,8 @@ ghost use Rattle.lrc_base.specs.declared.grammar.Sort as base;
 ghost use Rattle.lrc_base.specs.declared.grammar.Given as base_given;
 ghost use Rattle.lrc_graph.specs.Pairs.{Pairs, Has, HasExactly};
 ghost use Rattle.lrc_meaning.specs.Grammar.{occurrences_of};
-ghost use Rattle.lrc_order.specs.Needs as order;
-ghost use Rattle.lrc_order.specs.Needs.{need};
+ghost use Rattle.lrc_order_meaning.specs.Needs as order;
+ghost use Rattle.lrc_order_meaning.specs.Needs.{need};
 ghost use Rattle.lrc_ordered.specs.Setup.{IsNeedBelow, HasNeeds, IsEmptyTable, IsAmong, IsIn};
 ghost use Rattle.lrc_ordered.specs.Tables.{table_at, HasAt};
 
@@ -14,7 +14,7 @@ use crate::places::places_of;
 use lrc_base::{Given, List, Memory, Production, Sort};
 use lrc_grammar::occurrences_of;
 use lrc_graph::Relation;
-use lrc_order::{Need, Place};
+use lrc_order_meaning::{Need, Place};
 use std::alloc::Global;
 
 /// The places of each production.

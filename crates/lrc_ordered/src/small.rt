@@ -1,5 +1,5 @@
 ghost use Rattle.std.specs.Prelude.{◌↔◌, All, IsTrue};
-ghost use Rattle.lrc_order.specs.Ordered.{IsGivenThere};
+ghost use Rattle.lrc_order_meaning.specs.Ordered.{IsGivenThere};
 ghost use Rattle.lrc_ordered.specs.Small.{FewIsSmall};
 
 use lrc_base::{Given, Sort};

@@ -4,7 +4,7 @@ ghost use Rattle.lrc_ordered.specs.Tables.{Closed, HandedAt, HandedAmong, FitsIn
 
 use lrc_base::List;
 use lrc_graph::Relation;
-use lrc_order::Place;
+use lrc_order_meaning::Place;
 
 /// Pairs the occurrences of two attributes of a sort at a place that starts there, where the sort's
 /// relation pairs them, and closes the production's relation again.

@@ -2,7 +2,7 @@ ghost use Rattle.std.specs.Prelude.{◌≡◌, ℕ, ◌+◌, ◌*◌, ◌<◌, �
 ghost use Rattle.lrc_base.specs.declared.grammar.Given as base;
 ghost use Rattle.lrc_meaning.specs.Grammar as meaning;
 ghost use Rattle.lrc_graph.specs.Pairs.{Has, IsTransitive};
-ghost use Rattle.lrc_order.specs.Ordered.{IsAcyclic};
+ghost use Rattle.lrc_order_meaning.specs.Ordered.{IsAcyclic};
 ghost use Rattle.lrc_ordered.specs.Numbered.{AreNumbered, IsTableOf, AreSets, IsLeft, left};
 
 use crate::turns::fill_set;

@@ -16,17 +16,17 @@ use Rattle.lrc_base.specs.declared.grammar.Sort.{Sort}
 use Rattle.lrc_base.specs.declared.grammar.Production.{Production}
 use Rattle.lrc_meaning.specs.Grammar.{Grammar, Occurrence, attrs_of_sort, attrs_of, own_occurrence, symbol_occurrence, extra_occurrences, occurrences_of}
 use Rattle.lrc_meaning.proofs.ListLemmas.{slice_left, slice_right}
-use Rattle.lrc_order.specs.declared.Place.{Place}
-use Rattle.lrc_order.specs.declared.Partition.{Partition}
-use Rattle.lrc_order.specs.Needs.{symbol_of, kid_symbols, extra_symbols, own_end, kids_end, kid_count, extra_count, symbols_of, left_place}
-use Rattle.lrc_sequence.specs.declared.Action.{Action}
-use Rattle.lrc_sequence.specs.declared.Action.TheVariants as a
-use Rattle.lrc_sequence.specs.declared.Bound.{Bound}
-use Rattle.lrc_sequence.specs.declared.Bound.TheVariants as b
-use Rattle.lrc_sequence.specs.Items.{visit_of, visits_of, is_of, attrs_of_visit, values_of_visit, symbol_at, makes}
-use Rattle.lrc_sequence.specs.Sequences.{is_defined, segment}
-use Rattle.lrc_sequence.specs.Bindings.{gained}
-use Rattle.lrc_order.proofs.MemberLemmas.{member_cases, no_member, member_of_map, member_of_flat, member_of_filter, member_of_range}
+use Rattle.lrc_order_meaning.specs.declared.Place.{Place}
+use Rattle.lrc_order_meaning.specs.declared.Partition.{Partition}
+use Rattle.lrc_order_meaning.specs.Needs.{symbol_of, kid_symbols, extra_symbols, own_end, kids_end, kid_count, extra_count, symbols_of, left_place}
+use Rattle.lrc_plan_meaning.specs.declared.Action.{Action}
+use Rattle.lrc_plan_meaning.specs.declared.Action.TheVariants as a
+use Rattle.lrc_plan_meaning.specs.declared.Bound.{Bound}
+use Rattle.lrc_plan_meaning.specs.declared.Bound.TheVariants as b
+use Rattle.lrc_plan_meaning.specs.Items.{visit_of, visits_of, is_of, attrs_of_visit, values_of_visit, symbol_at, makes}
+use Rattle.lrc_plan_meaning.specs.Sequences.{is_defined, segment}
+use Rattle.lrc_plan_meaning.specs.Bindings.{gained}
+use Rattle.lrc_order_meaning.proofs.MemberLemmas.{member_cases, no_member, member_of_map, member_of_flat, member_of_filter, member_of_range}
 use Rattle.lrc_plan.proofs.DistinctLemmas.{Distinct}
 use Rattle.lrc_plan.proofs.OnceLemmas.{join_distinct, distinct_map, distinct_filter, distinct_range, distinct_flat, pairs_of_distinct, IsVisitOf, action_cases, segment_once, segments_apart, segment_actions}
 

@@ -13,25 +13,25 @@ use Rattle.lrc_base.specs.declared.grammar.Production.{Production}
 use Rattle.lrc_meaning.specs.Grammar.{Grammar, Occurrence, attrs_of_sort, occurrences_of, own_occurrence, symbol_occurrence, is_production_right}
 use Rattle.lrc_graph.specs.Pairs.{Path, step, onward}
 use Rattle.lrc_graph.proofs.PairsLemmas.{joined}
-use Rattle.lrc_order.specs.declared.Need.{Need}
-use Rattle.lrc_order.specs.declared.Partition.{Partition}
-use Rattle.lrc_order.specs.declared.Place.{Place}
-use Rattle.lrc_order.specs.Needs.{need, places_of, symbols_of, left_place, tree_needs, occurrences_at, equation_needs}
-use Rattle.lrc_order.specs.Sets.{Before}
-use Rattle.lrc_order.specs.Extended.{Extended, ExtendedPath}
-use Rattle.lrc_order.specs.Ordered.{Partitions, ArePartitions, IsGivenThere, IsAcyclic}
-use Rattle.lrc_order.proofs.TurnLemmas.{sets_in_turn}
+use Rattle.lrc_order_meaning.specs.declared.Need.{Need}
+use Rattle.lrc_order_meaning.specs.declared.Partition.{Partition}
+use Rattle.lrc_order_meaning.specs.declared.Place.{Place}
+use Rattle.lrc_order_meaning.specs.Needs.{need, places_of, symbols_of, left_place, tree_needs, occurrences_at, equation_needs}
+use Rattle.lrc_order_meaning.specs.Sets.{Before}
+use Rattle.lrc_order_meaning.specs.Extended.{Extended, ExtendedPath}
+use Rattle.lrc_order_meaning.specs.Ordered.{Partitions, ArePartitions, IsGivenThere, IsAcyclic}
+use Rattle.lrc_order_meaning.proofs.TurnLemmas.{sets_in_turn}
 use Rattle.lrc_ordered.proofs.PlaceLemmas.{places_within}
 use Rattle.lrc_ordered.proofs.RangeLemmas.{places_placed, IsNeedWithin}
 use Rattle.lrc_ordered.proofs.BridgeLemmas.{item_at}
-use Rattle.lrc_sequence.specs.declared.Action.TheVariants as a
-use Rattle.lrc_sequence.specs.declared.Bound.TheVariants as b
-use Rattle.lrc_sequence.specs.Items.{is_among, visits_of, visit_of, values_of_visit, given_back, extended_of, symbol_at}
-use Rattle.lrc_sequence.specs.Sequences.{State, is_defined}
-use Rattle.lrc_sequence.proofs.ItemLemmas.{contained}
-use Rattle.lrc_sequence.proofs.ExtendedLemmas.{partition_of, read_extended}
+use Rattle.lrc_plan_meaning.specs.declared.Action.TheVariants as a
+use Rattle.lrc_plan_meaning.specs.declared.Bound.TheVariants as b
+use Rattle.lrc_plan_meaning.specs.Items.{is_among, visits_of, visit_of, values_of_visit, given_back, extended_of, symbol_at}
+use Rattle.lrc_plan_meaning.specs.Sequences.{State, is_defined}
+use Rattle.lrc_plan_meaning.proofs.ItemLemmas.{contained}
+use Rattle.lrc_plan_meaning.proofs.ExtendedLemmas.{partition_of, read_extended}
 use Rattle.std.proofs.lemmas.List.{get_or_default}
-use Rattle.lrc_order.proofs.MemberLemmas.{member_of_map, member_of_filter, member_first, member_later, member_map, member_flat, member_range}
+use Rattle.lrc_order_meaning.proofs.MemberLemmas.{member_of_map, member_of_filter, member_first, member_later, member_map, member_flat, member_range}
 use Rattle.lrc_plan.proofs.WaitingLemmas.{defined_at}
 use Rattle.lrc_plan.proofs.OccurrenceLemmas.{stands_at}
 use Rattle.lrc_plan.proofs.InLemmas.{extended_within}

@@ -8,19 +8,19 @@ use Rattle.std.proofs.lemmas.List.Folds.{flat_map-map}
 use Rattle.lrc_base.specs.declared.grammar.Sort.{Sort}
 use Rattle.lrc_base.specs.declared.grammar.Production.{Production}
 use Rattle.lrc_meaning.specs.Grammar.{occurrences_of}
-use Rattle.lrc_order.specs.declared.Partition.{Partition}
-use Rattle.lrc_order.specs.declared.Place.{Place}
-use Rattle.lrc_order.specs.Needs.{symbols_of, left_place}
-use Rattle.lrc_sequence.specs.declared.Action.{Action}
-use Rattle.lrc_sequence.specs.declared.Bound.{Bound}
-use Rattle.lrc_sequence.specs.declared.Bound.TheVariants as b
-use Rattle.lrc_sequence.specs.declared.Step.{Step}
-use Rattle.lrc_sequence.specs.Items.{is_among, visits_of, values_of_visit, symbol_at}
-use Rattle.lrc_sequence.specs.Sequences.{actions_of, segments_of, segment}
-use Rattle.lrc_sequence.specs.Bindings.{bindings_at, items_of, gained, used, binding}
-use Rattle.lrc_sequence.specs.Plans.{step_of, bindings_from, bindings_of}
-use Rattle.lrc_sequence.proofs.ItemLemmas.{same_bool, among, contained}
-use Rattle.lrc_sequence.proofs.GreedyLemmas.{segments_count, segments_are_of}
+use Rattle.lrc_order_meaning.specs.declared.Partition.{Partition}
+use Rattle.lrc_order_meaning.specs.declared.Place.{Place}
+use Rattle.lrc_order_meaning.specs.Needs.{symbols_of, left_place}
+use Rattle.lrc_plan_meaning.specs.declared.Action.{Action}
+use Rattle.lrc_plan_meaning.specs.declared.Bound.{Bound}
+use Rattle.lrc_plan_meaning.specs.declared.Bound.TheVariants as b
+use Rattle.lrc_plan_meaning.specs.declared.Step.{Step}
+use Rattle.lrc_plan_meaning.specs.Items.{is_among, visits_of, values_of_visit, symbol_at}
+use Rattle.lrc_plan_meaning.specs.Sequences.{actions_of, segments_of, segment}
+use Rattle.lrc_plan_meaning.specs.Bindings.{bindings_at, items_of, gained, used, binding}
+use Rattle.lrc_plan_meaning.specs.Plans.{step_of, bindings_from, bindings_of}
+use Rattle.lrc_plan_meaning.proofs.ItemLemmas.{same_bool, among, contained}
+use Rattle.lrc_plan_meaning.proofs.GreedyLemmas.{segments_count, segments_are_of}
 use Rattle.lrc_plan.specs.ItemSets.{Flags, holds, IsSetOf}
 use Rattle.lrc_plan.specs.Handing.{no_items, listed_items, shared, shared_from, all_shared}
 use Rattle.lrc_plan.specs.Gaining.{shape_of, gained_by, used_by, AreSetsOf}

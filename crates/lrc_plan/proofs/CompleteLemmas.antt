@@ -9,18 +9,18 @@ use Rattle.std.proofs.lemmas.List.Elements.{All-append, All-map, All-contains, f
 use Rattle.lrc_base.specs.declared.grammar.Sort.{Sort}
 use Rattle.lrc_base.specs.declared.grammar.Production.{Production}
 use Rattle.lrc_meaning.specs.Grammar.{Grammar, Occurrence, occurrences_of, is_well_formed}
-use Rattle.lrc_order.specs.declared.Partition.{Partition}
-use Rattle.lrc_order.specs.Extended.{ExtendedPath}
-use Rattle.lrc_order.specs.Needs.{symbols_of}
-use Rattle.lrc_order.specs.Ordered.{Partitions, ArePartitions, IsGivenThere, IsAcyclic, IsOrdered}
+use Rattle.lrc_order_meaning.specs.declared.Partition.{Partition}
+use Rattle.lrc_order_meaning.specs.Extended.{ExtendedPath}
+use Rattle.lrc_order_meaning.specs.Needs.{symbols_of}
+use Rattle.lrc_order_meaning.specs.Ordered.{Partitions, ArePartitions, IsGivenThere, IsAcyclic, IsOrdered}
 use Rattle.lrc_ordered.proofs.RangeLemmas.{all_flat}
-use Rattle.lrc_sequence.specs.declared.Action.{Action}
-use Rattle.lrc_sequence.specs.declared.Action.TheVariants as a
-use Rattle.lrc_sequence.specs.Items.{visits_of, symbol_at}
-use Rattle.lrc_sequence.specs.Sequences.{is_defined, visits_at, actions_of, segment}
-use Rattle.lrc_sequence.specs.Sound.{IsDone, IsVisitThere, IsComplete}
-use Rattle.lrc_sequence.proofs.ExtendedLemmas.{partition_of}
-use Rattle.lrc_sequence.proofs.GreedyLemmas.{segments_are_of}
+use Rattle.lrc_plan_meaning.specs.declared.Action.{Action}
+use Rattle.lrc_plan_meaning.specs.declared.Action.TheVariants as a
+use Rattle.lrc_plan_meaning.specs.Items.{visits_of, symbol_at}
+use Rattle.lrc_plan_meaning.specs.Sequences.{is_defined, visits_at, actions_of, segment}
+use Rattle.lrc_plan_meaning.specs.Sound.{IsDone, IsVisitThere, IsComplete}
+use Rattle.lrc_plan_meaning.proofs.ExtendedLemmas.{partition_of}
+use Rattle.lrc_plan_meaning.proofs.GreedyLemmas.{segments_are_of}
 use Rattle.lrc_plan.proofs.InLemmas.{in_range, production_is_right}
 use Rattle.lrc_plan.proofs.BindingLemmas.{segments_number}
 use Rattle.lrc_plan.proofs.TraceLemmas.{eval_there, visit_there}

@@ -7,9 +7,9 @@ use Rattle.std.proofs.lemmas.Option.{slice_get_past}
 use Rattle.lrc_base.specs.declared.grammar.Given.{Given}
 use Rattle.lrc_meaning.specs.Grammar.{Grammar, attrs_of_sort}
 use Rattle.lrc_graph.specs.Pairs.{Pairs, paired, HasExactly}
-use Rattle.lrc_order.specs.Induced.{Induced}
-use Rattle.lrc_order.specs.Ordered.{IsGivenThere}
-use Rattle.lrc_order.proofs.TransitiveLemmas.{has_place}
+use Rattle.lrc_order_meaning.specs.Induced.{Induced}
+use Rattle.lrc_order_meaning.specs.Ordered.{IsGivenThere}
+use Rattle.lrc_order_meaning.proofs.TransitiveLemmas.{has_place}
 use Rattle.lrc_plan.proofs.AtLemmas.{past_default}
 
 -- what is not refuted below a number is not refuted of all below it

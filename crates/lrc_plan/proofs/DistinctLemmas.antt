@@ -4,7 +4,7 @@ use Rattle.std.specs.Prelude.{flat_map, AllPairs, ⊤}
 use Rattle.std.specs.List.{range_with_len}
 use Rattle.std.proofs.lemmas.Bool.{cases_order}
 use Rattle.std.proofs.lemmas.List.Elements.{Contains-append_left, Contains-append_right}
-use Rattle.lrc_order.proofs.MemberLemmas.{member_cases, no_member, member_flat, member_range}
+use Rattle.lrc_order_meaning.proofs.MemberLemmas.{member_cases, no_member, member_flat, member_range}
 
 -- no element stands twice
 abbrev pub Distinct : {X : Type 0} → List X → Type 0

@@ -6,14 +6,14 @@ use Rattle.std.proofs.lemmas.Bool.{true≢false}
 use Rattle.std.proofs.lemmas.List.Elements.{Contains-append_left, Contains-append_right}
 use Rattle.lrc_base.specs.declared.grammar.Sort.{Sort}
 use Rattle.lrc_base.specs.declared.grammar.Production.{Production}
-use Rattle.lrc_order.specs.declared.Partition.{Partition}
-use Rattle.lrc_sequence.specs.declared.Action.{Action}
-use Rattle.lrc_sequence.specs.declared.Bound.{Bound}
-use Rattle.lrc_sequence.specs.Items.{makes}
-use Rattle.lrc_sequence.specs.Sequences.{State, pick, is_ready, did, greedy, actions_of}
-use Rattle.lrc_sequence.proofs.GreedyLemmas.{pick_over, greedy_keeps}
+use Rattle.lrc_order_meaning.specs.declared.Partition.{Partition}
+use Rattle.lrc_plan_meaning.specs.declared.Action.{Action}
+use Rattle.lrc_plan_meaning.specs.declared.Bound.{Bound}
+use Rattle.lrc_plan_meaning.specs.Items.{makes}
+use Rattle.lrc_plan_meaning.specs.Sequences.{State, pick, is_ready, did, greedy, actions_of}
+use Rattle.lrc_plan_meaning.proofs.GreedyLemmas.{pick_over, greedy_keeps}
 use Rattle.std.proofs.lemmas.List.{get_or_default}
-use Rattle.lrc_order.proofs.MemberLemmas.{member_first, member_later, member_cases}
+use Rattle.lrc_order_meaning.proofs.MemberLemmas.{member_first, member_later, member_cases}
 
 -- where a test does not hold of all, it fails at one
 fails_over : (test : Bound → Bool) (x : Bound) (xs : List Bound) (b : Bool) → test x ≡ b → (list_all test xs ≡ false → (y : Bound) × Contains xs y × (test y ≡ false))

@@ -11,16 +11,16 @@ use Rattle.lrc_base.specs.declared.grammar.Extra.{Extra}
 use Rattle.lrc_base.specs.declared.grammar.Production.{Production}
 use Rattle.lrc_meaning.specs.Grammar.{Grammar, attrs_of_sort, attrs_of, extra_occurrences, occurrences_of, is_production_right, is_well_formed}
 use Rattle.lrc_grammar.specs.Limits.{has_few_parts, keeps_limits}
-use Rattle.lrc_order.specs.declared.Need.{Need}
-use Rattle.lrc_order.specs.declared.Partition.{Partition}
-use Rattle.lrc_order.specs.declared.Place.{Place}
-use Rattle.lrc_order.specs.Needs.{symbol_of, kid_symbols, extra_symbols, own_end, kids_end, symbols_of, left_place, places_of}
+use Rattle.lrc_order_meaning.specs.declared.Need.{Need}
+use Rattle.lrc_order_meaning.specs.declared.Partition.{Partition}
+use Rattle.lrc_order_meaning.specs.declared.Place.{Place}
+use Rattle.lrc_order_meaning.specs.Needs.{symbol_of, kid_symbols, extra_symbols, own_end, kids_end, symbols_of, left_place, places_of}
 use Rattle.lrc_ordered.proofs.PlaceLemmas.{IsWithin, places_within}
 use Rattle.lrc_ordered.proofs.RangeLemmas.{all_pass}
 use Rattle.lrc_ordered.proofs.OrderLemmas.{few_attrs}
 use Rattle.lrc_ordered.proofs.SmallLemmas.{few_is_small}
-use Rattle.lrc_sequence.specs.Items.{values_of_visit, extended_of}
-use Rattle.lrc_sequence.specs.Sequences.{actions_of}
+use Rattle.lrc_plan_meaning.specs.Items.{values_of_visit, extended_of}
+use Rattle.lrc_plan_meaning.specs.Sequences.{actions_of}
 use Rattle.lrc_plan.specs.declared.waiting.Waiting.{Waiting}
 use Rattle.lrc_plan.specs.Waiting.{waiting_of}
 use Rattle.lrc_plan.specs.ItemSets.{Flags, HasRoom, HasRoomFor}

@@ -8,23 +8,23 @@ use Rattle.std.proofs.lemmas.List.Elements.{All-contains, Contains-append_left, 
 use Rattle.lrc_base.specs.declared.grammar.Sort.{Sort}
 use Rattle.lrc_base.specs.declared.grammar.Production.{Production}
 use Rattle.lrc_meaning.specs.Grammar.{Grammar, attrs_of_sort, is_well_formed}
-use Rattle.lrc_order.specs.declared.Partition.{Partition}
-use Rattle.lrc_order.specs.Extended.{ExtendedPath}
-use Rattle.lrc_order.specs.Needs.{left_place}
-use Rattle.lrc_order.specs.Ordered.{Partitions, ArePartitions, IsGivenThere, IsAcyclic, IsOrdered}
+use Rattle.lrc_order_meaning.specs.declared.Partition.{Partition}
+use Rattle.lrc_order_meaning.specs.Extended.{ExtendedPath}
+use Rattle.lrc_order_meaning.specs.Needs.{left_place}
+use Rattle.lrc_order_meaning.specs.Ordered.{Partitions, ArePartitions, IsGivenThere, IsAcyclic, IsOrdered}
 use Rattle.lrc_ordered.proofs.PlaceLemmas.{places_within}
-use Rattle.lrc_sequence.specs.declared.Action.{Action}
-use Rattle.lrc_sequence.specs.declared.Bound.{Bound}
-use Rattle.lrc_sequence.specs.declared.Bound.TheVariants as b
-use Rattle.lrc_sequence.specs.Items.{is_among, visits_of, values_of_visit, needs, makes}
-use Rattle.lrc_sequence.specs.Sequences.{State, greedy, entered, actions_of, segments_from, segments_of, segment}
-use Rattle.lrc_sequence.specs.Bindings.{items_of, gained, used, binding}
-use Rattle.lrc_sequence.specs.Sound.{handed_in, GivesAll}
-use Rattle.lrc_sequence.proofs.ItemLemmas.{among}
-use Rattle.lrc_sequence.proofs.GreedyLemmas.{greedy_keeps}
-use Rattle.lrc_order.proofs.MemberLemmas.{member_flat, member_filter, member_range}
+use Rattle.lrc_plan_meaning.specs.declared.Action.{Action}
+use Rattle.lrc_plan_meaning.specs.declared.Bound.{Bound}
+use Rattle.lrc_plan_meaning.specs.declared.Bound.TheVariants as b
+use Rattle.lrc_plan_meaning.specs.Items.{is_among, visits_of, values_of_visit, needs, makes}
+use Rattle.lrc_plan_meaning.specs.Sequences.{State, greedy, entered, actions_of, segments_from, segments_of, segment}
+use Rattle.lrc_plan_meaning.specs.Bindings.{items_of, gained, used, binding}
+use Rattle.lrc_plan_meaning.specs.Sound.{handed_in, GivesAll}
+use Rattle.lrc_plan_meaning.proofs.ItemLemmas.{among}
+use Rattle.lrc_plan_meaning.proofs.GreedyLemmas.{greedy_keeps}
+use Rattle.lrc_order_meaning.proofs.MemberLemmas.{member_flat, member_filter, member_range}
 use Rattle.std.proofs.lemmas.List.{get_or_default}
-use Rattle.lrc_sequence.proofs.ReadyLemmas.{RunsFrom, runs_on, IsEarlier, made_by, entering, segment_at}
+use Rattle.lrc_plan_meaning.proofs.ReadyLemmas.{RunsFrom, runs_on, IsEarlier, made_by, entering, segment_at}
 use Rattle.lrc_plan.proofs.ListedLemmas.{value_listed}
 use Rattle.lrc_plan.proofs.InLemmas.{production_is_right}
 use Rattle.lrc_plan.proofs.EndLemmas.{IsKept, kept_on, IsMoved, moves_on, AllDone, ends, stays}

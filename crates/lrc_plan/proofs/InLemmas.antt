@@ -9,18 +9,18 @@ use Rattle.std.proofs.lemmas.List.Elements.{All-nil, All-cons, All-append, All-m
 use Rattle.lrc_base.specs.declared.grammar.Sort.{Sort}
 use Rattle.lrc_base.specs.declared.grammar.Production.{Production}
 use Rattle.lrc_meaning.specs.Grammar.{Grammar, attrs_of_sort, occurrences_of, is_production_right, is_well_formed}
-use Rattle.lrc_order.specs.declared.Need.{Need}
-use Rattle.lrc_order.specs.declared.Partition.{Partition}
-use Rattle.lrc_order.specs.declared.Place.{Place}
-use Rattle.lrc_order.specs.Needs.{need, symbols_of, left_place, places_of, needs_of, equation_needs, tree_needs}
+use Rattle.lrc_order_meaning.specs.declared.Need.{Need}
+use Rattle.lrc_order_meaning.specs.declared.Partition.{Partition}
+use Rattle.lrc_order_meaning.specs.declared.Place.{Place}
+use Rattle.lrc_order_meaning.specs.Needs.{need, symbols_of, left_place, places_of, needs_of, equation_needs, tree_needs}
 use Rattle.lrc_ordered.proofs.PlaceLemmas.{IsWithin, places_within}
 use Rattle.lrc_ordered.proofs.RangeLemmas.{all_flat, IsPlaced, places_placed, IsNeedWithin, needs_within, production_right}
-use Rattle.lrc_sequence.specs.declared.Action.{Action}
-use Rattle.lrc_sequence.specs.declared.Action.TheVariants as a
-use Rattle.lrc_sequence.specs.declared.Bound.{Bound}
-use Rattle.lrc_sequence.specs.declared.Bound.TheVariants as b
-use Rattle.lrc_sequence.specs.Items.{visits_of, visit_of, comes_before, is_of, values_of_visit, tree_of, taken, given_back, ordered_at, extended_of, firsts_of, symbol_at, needs, makes}
-use Rattle.lrc_sequence.specs.Sequences.{is_defined, visits_at, actions_of}
+use Rattle.lrc_plan_meaning.specs.declared.Action.{Action}
+use Rattle.lrc_plan_meaning.specs.declared.Action.TheVariants as a
+use Rattle.lrc_plan_meaning.specs.declared.Bound.{Bound}
+use Rattle.lrc_plan_meaning.specs.declared.Bound.TheVariants as b
+use Rattle.lrc_plan_meaning.specs.Items.{visits_of, visit_of, comes_before, is_of, values_of_visit, tree_of, taken, given_back, ordered_at, extended_of, firsts_of, symbol_at, needs, makes}
+use Rattle.lrc_plan_meaning.specs.Sequences.{is_defined, visits_at, actions_of}
 use Rattle.lrc_plan.specs.Gaining.{shape_of, IsIn}
 use Rattle.lrc_plan.specs.ItemSets.{Flags, HasRoom, HasRoomFor}
 use Rattle.lrc_plan.proofs.PairLemmas.{all_front}

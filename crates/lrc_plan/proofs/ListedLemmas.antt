@@ -7,22 +7,22 @@ use Rattle.std.proofs.lemmas.List.Elements.{All-nil, All-cons, All-append, All-m
 use Rattle.lrc_base.specs.declared.grammar.Sort.{Sort}
 use Rattle.lrc_base.specs.declared.grammar.Production.{Production}
 use Rattle.lrc_meaning.specs.Grammar.{Grammar, occurrences_of, is_production_right, is_well_formed}
-use Rattle.lrc_order.specs.declared.Need.{Need}
-use Rattle.lrc_order.specs.declared.Partition.{Partition}
-use Rattle.lrc_order.specs.declared.Place.{Place}
-use Rattle.lrc_order.specs.Needs.{symbols_of, left_place, places_of, equation_needs, tree_needs}
+use Rattle.lrc_order_meaning.specs.declared.Need.{Need}
+use Rattle.lrc_order_meaning.specs.declared.Partition.{Partition}
+use Rattle.lrc_order_meaning.specs.declared.Place.{Place}
+use Rattle.lrc_order_meaning.specs.Needs.{symbols_of, left_place, places_of, equation_needs, tree_needs}
 use Rattle.lrc_ordered.proofs.PlaceLemmas.{places_within}
 use Rattle.lrc_ordered.proofs.RangeLemmas.{all_flat, IsPlaced, places_placed, IsNeedWithin, needs_within}
-use Rattle.lrc_sequence.specs.declared.Action.{Action}
-use Rattle.lrc_sequence.specs.declared.Action.TheVariants as a
-use Rattle.lrc_sequence.specs.declared.Bound.{Bound}
-use Rattle.lrc_sequence.specs.declared.Bound.TheVariants as b
-use Rattle.lrc_sequence.specs.Items.{visits_of, values_of_visit, tree_of, taken, firsts_of, symbol_at, needs}
-use Rattle.lrc_sequence.specs.Sequences.{is_defined, visits_at, actions_of}
-use Rattle.lrc_sequence.specs.Bindings.{bindings_at, items_of}
-use Rattle.lrc_sequence.specs.Sound.{IsReady}
-use Rattle.lrc_order.proofs.MemberLemmas.{member_map, member_flat, member_range}
-use Rattle.lrc_sequence.proofs.ReadyLemmas as runs
+use Rattle.lrc_plan_meaning.specs.declared.Action.{Action}
+use Rattle.lrc_plan_meaning.specs.declared.Action.TheVariants as a
+use Rattle.lrc_plan_meaning.specs.declared.Bound.{Bound}
+use Rattle.lrc_plan_meaning.specs.declared.Bound.TheVariants as b
+use Rattle.lrc_plan_meaning.specs.Items.{visits_of, values_of_visit, tree_of, taken, firsts_of, symbol_at, needs}
+use Rattle.lrc_plan_meaning.specs.Sequences.{is_defined, visits_at, actions_of}
+use Rattle.lrc_plan_meaning.specs.Bindings.{bindings_at, items_of}
+use Rattle.lrc_plan_meaning.specs.Sound.{IsReady}
+use Rattle.lrc_order_meaning.proofs.MemberLemmas.{member_map, member_flat, member_range}
+use Rattle.lrc_plan_meaning.proofs.ReadyLemmas as runs
 use Rattle.lrc_plan.proofs.PairLemmas.{all_front}
 use Rattle.lrc_plan.proofs.InLemmas.{in_range, values_in, production_is_right}
 

@@ -13,10 +13,10 @@ use Rattle.lrc_base.specs.declared.grammar.Kid.{Kid}
 use Rattle.lrc_base.specs.declared.grammar.Extra.{Extra}
 use Rattle.lrc_base.specs.declared.grammar.Production.{Production}
 use Rattle.lrc_meaning.specs.Grammar.{Occurrence, attrs_of_sort, attrs_of, own_occurrence, symbol_occurrence, extra_occurrences, occurrences_of}
-use Rattle.lrc_order.specs.declared.Place.{Place}
-use Rattle.lrc_order.specs.Needs.{symbol_of, kid_symbols, extra_symbols, own_end, kids_end, symbols_of}
+use Rattle.lrc_order_meaning.specs.declared.Place.{Place}
+use Rattle.lrc_order_meaning.specs.Needs.{symbol_of, kid_symbols, extra_symbols, own_end, kids_end, symbols_of}
 use Rattle.lrc_ordered.proofs.BridgeLemmas.{item_at}
-use Rattle.lrc_order.proofs.MemberLemmas.{member_first}
+use Rattle.lrc_order_meaning.proofs.MemberLemmas.{member_first}
 
 -- occurrence number `at` is that of an attribute of one of the places
 pub record OfPlace (sorts : List Sort) (places : List Place) (at : ℕ) (x : Occurrence) : Type 0 where

@@ -9,13 +9,13 @@ use Rattle.std.proofs.lemmas.List.Elements.{Contains-append_left, Contains-appen
 use Rattle.lrc_base.specs.declared.grammar.Sort.{Sort}
 use Rattle.lrc_base.specs.declared.grammar.Production.{Production}
 use Rattle.lrc_meaning.specs.Grammar.{occurrences_of}
-use Rattle.lrc_order.specs.declared.Partition.{Partition}
-use Rattle.lrc_order.specs.Needs.{symbols_of}
-use Rattle.lrc_sequence.specs.declared.Action.{Action}
-use Rattle.lrc_sequence.specs.declared.Action.TheVariants as a
-use Rattle.lrc_sequence.specs.Items.{visits_of, symbol_at}
-use Rattle.lrc_sequence.specs.Sequences.{is_defined, visits_at, actions_of, State, pick, is_ready, did, greedy, entered, segments_from, segments_of, segment}
-use Rattle.lrc_order.proofs.MemberLemmas.{member_first, member_later, member_cases, no_member, member_of_map, member_of_flat, member_of_filter, member_of_range}
+use Rattle.lrc_order_meaning.specs.declared.Partition.{Partition}
+use Rattle.lrc_order_meaning.specs.Needs.{symbols_of}
+use Rattle.lrc_plan_meaning.specs.declared.Action.{Action}
+use Rattle.lrc_plan_meaning.specs.declared.Action.TheVariants as a
+use Rattle.lrc_plan_meaning.specs.Items.{visits_of, symbol_at}
+use Rattle.lrc_plan_meaning.specs.Sequences.{is_defined, visits_at, actions_of, State, pick, is_ready, did, greedy, entered, segments_from, segments_of, segment}
+use Rattle.lrc_order_meaning.proofs.MemberLemmas.{member_first, member_later, member_cases, no_member, member_of_map, member_of_flat, member_of_filter, member_of_range}
 use Rattle.lrc_plan.proofs.DistinctLemmas.{Distinct, distinct_left, distinct_right, apart}
 
 abbrev pub Within : {X : Type 0} → List X → List X → Type 0

@@ -7,10 +7,10 @@ use Rattle.std.proofs.lemmas.List.{map-append, take_more, get_or_append_left}
 use Rattle.std.proofs.lemmas.List.Elements.{filter-append}
 use Rattle.std.proofs.lemmas.List.Concat.{flat_map-append}
 use Rattle.std.proofs.lemmas.List.FromFn.{get_or-map-range_with_len, length-map-range_with_len}
-use Rattle.lrc_order.specs.declared.Need.{Need}
-use Rattle.lrc_sequence.specs.declared.Bound.{Bound}
-use Rattle.lrc_sequence.specs.declared.Bound.TheVariants as item
-use Rattle.lrc_sequence.specs.Items.{firsts_of}
+use Rattle.lrc_order_meaning.specs.declared.Need.{Need}
+use Rattle.lrc_plan_meaning.specs.declared.Bound.{Bound}
+use Rattle.lrc_plan_meaning.specs.declared.Bound.TheVariants as item
+use Rattle.lrc_plan_meaning.specs.Items.{firsts_of}
 use Rattle.lrc_plan.proofs.VisitLemmas.{range_more}
 
 pub flat_range_more : {X : Type 0} (f : ℕ → List X) (old items now : List X) (n : ℕ) → items ≡ old ++ flat_map f (range_with_len 0 n) → now ≡ items ++ f n

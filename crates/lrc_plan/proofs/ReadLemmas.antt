@@ -6,15 +6,15 @@ use Rattle.std.proofs.lemmas.List.{get_or-map, length-map, get_or_default}
 use Rattle.std.proofs.lemmas.List.FromFn.{get_or-map-range_with_len, length-map-range_with_len}
 use Rattle.lrc_base.specs.declared.grammar.Sort.{Sort}
 use Rattle.lrc_base.specs.declared.grammar.Production.{Production}
-use Rattle.lrc_order.specs.declared.Partition.{Partition}
+use Rattle.lrc_order_meaning.specs.declared.Partition.{Partition}
 use Rattle.lrc_ordered.proofs.BridgeLemmas.{item_at}
-use Rattle.lrc_sequence.specs.declared.Action.{Action}
-use Rattle.lrc_sequence.specs.declared.Bound.{Bound}
-use Rattle.lrc_sequence.specs.declared.Sequences.{Sequences}
-use Rattle.lrc_sequence.specs.Items.{visits_of}
-use Rattle.lrc_sequence.specs.Sequences.{segment, segments_of}
-use Rattle.lrc_sequence.specs.Bindings.{binding}
-use Rattle.lrc_sequence.specs.Plans.{bindings_from, bindings_of, sequences_of}
+use Rattle.lrc_plan_meaning.specs.declared.Action.{Action}
+use Rattle.lrc_plan_meaning.specs.declared.Bound.{Bound}
+use Rattle.lrc_plan_meaning.specs.declared.Sequences.{Sequences}
+use Rattle.lrc_plan_meaning.specs.Items.{visits_of}
+use Rattle.lrc_plan_meaning.specs.Sequences.{segment, segments_of}
+use Rattle.lrc_plan_meaning.specs.Bindings.{binding}
+use Rattle.lrc_plan_meaning.specs.Plans.{bindings_from, bindings_of, sequences_of}
 use Rattle.lrc_plan.proofs.BindingLemmas.{segments_number}
 
 pub found_at : {X : Type 0} (xs : List X) (i : ℕ) → i < length xs → (x : X) × (slice_get xs i ≡ Some x) × (get_or xs i x ≡ x)

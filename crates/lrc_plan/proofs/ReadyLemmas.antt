@@ -9,14 +9,14 @@ use Rattle.std.proofs.lemmas.List.{get_or-set_same, get_or-set_other, length-map
 use Rattle.std.proofs.lemmas.List.Edits.{length-remove, get_or-remove_below, get_or-remove_above}
 use Rattle.lrc_base.specs.declared.grammar.Sort.{Sort}
 use Rattle.lrc_base.specs.declared.grammar.Production.{Production}
-use Rattle.lrc_order.specs.declared.Partition.{Partition}
-use Rattle.lrc_sequence.specs.declared.Action.{Action}
-use Rattle.lrc_sequence.specs.declared.Bound.{Bound}
-use Rattle.lrc_sequence.specs.declared.Step.{Step}
-use Rattle.lrc_sequence.specs.Items.{is_among, awaits, makes}
-use Rattle.lrc_sequence.specs.Plans.{step_of}
-use Rattle.lrc_sequence.specs.Sequences.{State, pick, is_ready, did, greedy}
-use Rattle.lrc_sequence.proofs.ItemLemmas.{same_bool, among, contained}
+use Rattle.lrc_order_meaning.specs.declared.Partition.{Partition}
+use Rattle.lrc_plan_meaning.specs.declared.Action.{Action}
+use Rattle.lrc_plan_meaning.specs.declared.Bound.{Bound}
+use Rattle.lrc_plan_meaning.specs.declared.Step.{Step}
+use Rattle.lrc_plan_meaning.specs.Items.{is_among, awaits, makes}
+use Rattle.lrc_plan_meaning.specs.Plans.{step_of}
+use Rattle.lrc_plan_meaning.specs.Sequences.{State, pick, is_ready, did, greedy}
+use Rattle.lrc_plan_meaning.proofs.ItemLemmas.{same_bool, among, contained}
 use Rattle.lrc_plan.specs.declared.waiting.Waiting.{Waiting}
 use Rattle.lrc_plan.specs.ItemSets.{Flags, holds, HasRoom, IsSetOf}
 use Rattle.lrc_plan.specs.Waiting.{waiting_of}

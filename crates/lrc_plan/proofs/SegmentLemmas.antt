@@ -3,12 +3,12 @@ use Rattle.std.proofs.Common.{◌≡◌, ℕ, suc, ◌+◌, ◌-◌, ◌<◌, �
 use Rattle.std.proofs.lemmas.List.Elements.{Contains-append_left, Contains-append_right, Contains-append_cases, All-map}
 use Rattle.lrc_base.specs.declared.grammar.Sort.{Sort}
 use Rattle.lrc_base.specs.declared.grammar.Production.{Production}
-use Rattle.lrc_order.specs.declared.Partition.{Partition}
-use Rattle.lrc_sequence.specs.declared.Bound.{Bound}
-use Rattle.lrc_sequence.specs.declared.Step.{Step}
-use Rattle.lrc_sequence.specs.Items.{visits_of, values_of_visit}
-use Rattle.lrc_sequence.specs.Plans.{step_of}
-use Rattle.lrc_sequence.specs.Sequences.{State, greedy, entered, actions_of, segments_from, segments_of}
+use Rattle.lrc_order_meaning.specs.declared.Partition.{Partition}
+use Rattle.lrc_plan_meaning.specs.declared.Bound.{Bound}
+use Rattle.lrc_plan_meaning.specs.declared.Step.{Step}
+use Rattle.lrc_plan_meaning.specs.Items.{visits_of, values_of_visit}
+use Rattle.lrc_plan_meaning.specs.Plans.{step_of}
+use Rattle.lrc_plan_meaning.specs.Sequences.{State, greedy, entered, actions_of, segments_from, segments_of}
 use Rattle.lrc_plan.specs.declared.waiting.Waiting.{Waiting}
 use Rattle.lrc_plan.specs.ItemSets.{Flags, holds, HasRoom}
 use Rattle.lrc_plan.specs.Waiting.{waiting_of}

@@ -2,8 +2,8 @@
 use Rattle.std.proofs.Common.{IsTrue, All, Contains}
 use Rattle.lrc_base.specs.declared.grammar.Production.{Production}
 use Rattle.lrc_meaning.specs.Grammar.{Grammar, is_well_formed}
-use Rattle.lrc_order.specs.Ordered.{Partitions, ArePartitions, IsGivenThere, IsOrdered}
-use Rattle.lrc_sequence.specs.Sound.{IsSound}
+use Rattle.lrc_order_meaning.specs.Ordered.{Partitions, ArePartitions, IsGivenThere, IsOrdered}
+use Rattle.lrc_plan_meaning.specs.Sound.{IsSound}
 use Rattle.lrc_plan.proofs.ListedLemmas.{all_ready}
 use Rattle.lrc_plan.proofs.GivesLemmas.{ordered_gives}
 use Rattle.lrc_plan.proofs.CompleteLemmas.{ordered_complete}

@@ -10,18 +10,18 @@ use Rattle.lrc_base.specs.declared.grammar.Attr.{Attr}
 use Rattle.lrc_base.specs.declared.grammar.Sort.{Sort}
 use Rattle.lrc_base.specs.declared.grammar.Production.{Production}
 use Rattle.lrc_meaning.specs.Grammar.{attrs_of_sort, occurrences_of}
-use Rattle.lrc_order.specs.declared.Need.{Need}
-use Rattle.lrc_order.specs.declared.Partition.{Partition}
-use Rattle.lrc_order.specs.declared.Place.{Place}
-use Rattle.lrc_order.specs.Needs.{symbols_of}
-use Rattle.lrc_sequence.specs.declared.Action.{Action}
-use Rattle.lrc_sequence.specs.declared.Action.TheVariants as a
-use Rattle.lrc_sequence.specs.declared.Bound.{Bound}
-use Rattle.lrc_sequence.specs.declared.Bound.TheVariants as b
-use Rattle.lrc_sequence.specs.Items.{is_among, visits_of, visit_of, is_of, attrs_of_visit, values_of_visit, tree_of, given_back, extended_of, symbol_at, awaits}
-use Rattle.lrc_sequence.specs.Sequences.{State, is_ready, is_defined, visits_at, actions_of}
-use Rattle.lrc_sequence.proofs.ItemLemmas.{among}
-use Rattle.lrc_order.proofs.MemberLemmas.{member_first, member_map, member_flat, member_filter, member_range, member_of_map, member_of_filter, member_of_range}
+use Rattle.lrc_order_meaning.specs.declared.Need.{Need}
+use Rattle.lrc_order_meaning.specs.declared.Partition.{Partition}
+use Rattle.lrc_order_meaning.specs.declared.Place.{Place}
+use Rattle.lrc_order_meaning.specs.Needs.{symbols_of}
+use Rattle.lrc_plan_meaning.specs.declared.Action.{Action}
+use Rattle.lrc_plan_meaning.specs.declared.Action.TheVariants as a
+use Rattle.lrc_plan_meaning.specs.declared.Bound.{Bound}
+use Rattle.lrc_plan_meaning.specs.declared.Bound.TheVariants as b
+use Rattle.lrc_plan_meaning.specs.Items.{is_among, visits_of, visit_of, is_of, attrs_of_visit, values_of_visit, tree_of, given_back, extended_of, symbol_at, awaits}
+use Rattle.lrc_plan_meaning.specs.Sequences.{State, is_ready, is_defined, visits_at, actions_of}
+use Rattle.lrc_plan_meaning.proofs.ItemLemmas.{among}
+use Rattle.lrc_order_meaning.proofs.MemberLemmas.{member_first, member_map, member_flat, member_filter, member_range, member_of_map, member_of_filter, member_of_range}
 use Rattle.lrc_plan.proofs.EndLemmas.{fails_at, IsKept, AllDone}
 
 -- the attribute is of the direction

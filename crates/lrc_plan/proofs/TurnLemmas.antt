@@ -4,11 +4,11 @@ use Rattle.std.proofs.lemmas.Option.{same_Some}
 use Rattle.std.proofs.lemmas.Bool.{true≢false, cases_lt}
 use Rattle.lrc_base.specs.declared.grammar.Attr.{Attr}
 use Rattle.lrc_meaning.specs.Grammar.{Grammar, attrs_of_sort}
-use Rattle.lrc_order.specs.declared.Partition.{Partition}
-use Rattle.lrc_order.specs.Sets.{is_of_inherited, HasTurn, Placed, InSet}
-use Rattle.lrc_order.specs.Ordered.{Partitions, ArePartitions, IsPartition, IsGivenThere}
-use Rattle.lrc_order.proofs.GreatestLemmas.{greatest_turn}
-use Rattle.lrc_sequence.proofs.ExtendedLemmas.{partition_of}
+use Rattle.lrc_order_meaning.specs.declared.Partition.{Partition}
+use Rattle.lrc_order_meaning.specs.Sets.{is_of_inherited, HasTurn, Placed, InSet}
+use Rattle.lrc_order_meaning.specs.Ordered.{Partitions, ArePartitions, IsPartition, IsGivenThere}
+use Rattle.lrc_order_meaning.proofs.GreatestLemmas.{greatest_turn}
+use Rattle.lrc_plan_meaning.proofs.ExtendedLemmas.{partition_of}
 
 even_over : (k : ℕ) → (is_of_inherited k ≡ true → k % 2 ≡ 0) × (is_of_inherited k ≡ false → k % 2 ≡ 1)
 even_over zero = (λ e. refl, λ e. absurd (true≢false e))

@@ -10,14 +10,14 @@ use Rattle.std.proofs.lemmas.List.FromFn.{get_or-map-range_with_len}
 use Rattle.lrc_base.specs.declared.grammar.Sort.{Sort}
 use Rattle.lrc_base.specs.declared.grammar.Production.{Production}
 use Rattle.lrc_meaning.specs.Grammar.{Occurrence, occurrences_of}
-use Rattle.lrc_order.specs.declared.Partition.{Partition}
-use Rattle.lrc_order.specs.declared.Place.{Place}
-use Rattle.lrc_order.specs.Needs.{symbols_of, left_place, equation_needs}
-use Rattle.lrc_sequence.specs.declared.Action.TheVariants as a
-use Rattle.lrc_sequence.specs.declared.Bound.{Bound}
-use Rattle.lrc_sequence.specs.declared.Bound.TheVariants as item
-use Rattle.lrc_sequence.specs.Items.{visits_of, symbol_at, firsts_of, extended_of}
-use Rattle.lrc_sequence.specs.Sequences.{is_defined, visits_at, actions_of}
+use Rattle.lrc_order_meaning.specs.declared.Partition.{Partition}
+use Rattle.lrc_order_meaning.specs.declared.Place.{Place}
+use Rattle.lrc_order_meaning.specs.Needs.{symbols_of, left_place, equation_needs}
+use Rattle.lrc_plan_meaning.specs.declared.Action.TheVariants as a
+use Rattle.lrc_plan_meaning.specs.declared.Bound.{Bound}
+use Rattle.lrc_plan_meaning.specs.declared.Bound.TheVariants as item
+use Rattle.lrc_plan_meaning.specs.Items.{visits_of, symbol_at, firsts_of, extended_of}
+use Rattle.lrc_plan_meaning.specs.Sequences.{is_defined, visits_at, actions_of}
 use Rattle.lrc_plan.specs.declared.waiting.Waiting.{Waiting}
 use Rattle.lrc_plan.specs.Waiting.{waiting_of, waiting_evaluation, waiting_visit}
 use Rattle.lrc_plan.proofs.VisitLemmas.{passed, passed_same}

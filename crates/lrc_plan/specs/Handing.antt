@@ -1,9 +1,9 @@
 -- Bindings by sets of what each visit gains and uses, where visits count from 0.
 use Rattle.std.specs.Prelude.{ℕ, ◌+◌, ◌-◌, ◌&&◌, List, [], ◌++◌, map, filter, flat_map, length, slice_index, slice_index_or}
 use Rattle.std.specs.List.{range_with_len}
-use Rattle.lrc_sequence.specs.declared.Bound.{Bound}
-use Rattle.lrc_sequence.specs.declared.Bound.TheVariants as b
-use Rattle.lrc_sequence.specs.Bindings.{bindings_at}
+use Rattle.lrc_plan_meaning.specs.declared.Bound.{Bound}
+use Rattle.lrc_plan_meaning.specs.declared.Bound.TheVariants as b
+use Rattle.lrc_plan_meaning.specs.Bindings.{bindings_at}
 use Rattle.lrc_plan.specs.ItemSets.{Flags, holds}
 
 -- the set that has nothing

@@ -1,8 +1,8 @@
 -- What a plan keeps: its sequences and bindings follow from the grammar and the partitions.
 use Rattle.std.specs.Prelude.{ℕ, ◌≤◌}
 use Rattle.lrc_base.specs.declared.grammar.Production.{Production}
-use Rattle.lrc_order.specs.Ordered.{Partitions}
-use Rattle.lrc_sequence.specs.Items.{visits_of}
+use Rattle.lrc_order_meaning.specs.Ordered.{Partitions}
+use Rattle.lrc_plan_meaning.specs.Items.{visits_of}
 
 -- a visit of the left side of a production
 pub record IsVisit (parts : Partitions) (p : Production) (v : ℕ) : Type 0 where

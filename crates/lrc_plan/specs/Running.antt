@@ -3,11 +3,11 @@ use Rattle.std.specs.Prelude.{◌≡◌, ℕ, ◌+◌, ◌-◌, ◌<◌, ◌≤�
 use Rattle.std.specs.List.{list_all}
 use Rattle.lrc_base.specs.declared.grammar.Sort.{Sort}
 use Rattle.lrc_base.specs.declared.grammar.Production.{Production}
-use Rattle.lrc_order.specs.declared.Partition.{Partition}
-use Rattle.lrc_sequence.specs.declared.Step.{Step}
-use Rattle.lrc_sequence.specs.Items.{visits_of}
-use Rattle.lrc_sequence.specs.Plans.{step_of}
-use Rattle.lrc_sequence.specs.Sequences.{State, segments_from, segments_of}
+use Rattle.lrc_order_meaning.specs.declared.Partition.{Partition}
+use Rattle.lrc_plan_meaning.specs.declared.Step.{Step}
+use Rattle.lrc_plan_meaning.specs.Items.{visits_of}
+use Rattle.lrc_plan_meaning.specs.Plans.{step_of}
+use Rattle.lrc_plan_meaning.specs.Sequences.{State, segments_from, segments_of}
 use Rattle.lrc_plan.specs.declared.waiting.Waiting.{Waiting}
 use Rattle.lrc_plan.specs.ItemSets.{Flags, holds, HasRoom, IsSetOf}
 use Rattle.lrc_plan.specs.Waiting.{waiting_of}

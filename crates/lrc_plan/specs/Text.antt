@@ -10,14 +10,14 @@ use Rattle.lrc_base.specs.declared.grammar.Production.{Production}
 use Rattle.lrc_meaning.specs.Tree.{is_sort}
 use Rattle.lrc_meaning.specs.Grammar.{Grammar, attrs_of_sort, attrs_of}
 use Rattle.lrc_meaning.specs.Text.{line_feed}
-use Rattle.lrc_order.specs.declared.Partition.{Partition}
-use Rattle.lrc_sequence.specs.declared.Action.{Action}
-use Rattle.lrc_sequence.specs.declared.Action.TheVariants as a
-use Rattle.lrc_sequence.specs.declared.Bound.{Bound}
-use Rattle.lrc_sequence.specs.declared.Bound.TheVariants as b
-use Rattle.lrc_sequence.specs.declared.Sequences.{Sequences}
-use Rattle.lrc_sequence.specs.Items.{visits_of, attrs_of_visit}
-use Rattle.lrc_sequence.specs.Plans.{sequences_of}
+use Rattle.lrc_order_meaning.specs.declared.Partition.{Partition}
+use Rattle.lrc_plan_meaning.specs.declared.Action.{Action}
+use Rattle.lrc_plan_meaning.specs.declared.Action.TheVariants as a
+use Rattle.lrc_plan_meaning.specs.declared.Bound.{Bound}
+use Rattle.lrc_plan_meaning.specs.declared.Bound.TheVariants as b
+use Rattle.lrc_plan_meaning.specs.declared.Sequences.{Sequences}
+use Rattle.lrc_plan_meaning.specs.Items.{visits_of, attrs_of_visit}
+use Rattle.lrc_plan_meaning.specs.Plans.{sequences_of}
 
 -- the attributes of a symbol print behind its name
 abbrev pub attribute_names : List ℕ → List Attr → List (List ℕ)

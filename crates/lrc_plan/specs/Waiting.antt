@@ -2,14 +2,14 @@
 use Rattle.std.specs.Prelude.{ℕ, List, [], ◌∷◌, slice_index_or}
 use Rattle.lrc_base.specs.declared.grammar.Sort.{Sort}
 use Rattle.lrc_base.specs.declared.grammar.Production.{Production}
-use Rattle.lrc_order.specs.declared.Partition.{Partition}
-use Rattle.lrc_order.specs.declared.Place.{Place}
-use Rattle.lrc_sequence.specs.declared.Action.{Action}
-use Rattle.lrc_sequence.specs.declared.Action.TheVariants as a
-use Rattle.lrc_sequence.specs.declared.Bound.{Bound}
-use Rattle.lrc_sequence.specs.declared.Bound.TheVariants as item
-use Rattle.lrc_sequence.specs.Items.{taken, given_back, awaits}
-use Rattle.lrc_sequence.specs.Plans.{step_of}
+use Rattle.lrc_order_meaning.specs.declared.Partition.{Partition}
+use Rattle.lrc_order_meaning.specs.declared.Place.{Place}
+use Rattle.lrc_plan_meaning.specs.declared.Action.{Action}
+use Rattle.lrc_plan_meaning.specs.declared.Action.TheVariants as a
+use Rattle.lrc_plan_meaning.specs.declared.Bound.{Bound}
+use Rattle.lrc_plan_meaning.specs.declared.Bound.TheVariants as item
+use Rattle.lrc_plan_meaning.specs.Items.{taken, given_back, awaits}
+use Rattle.lrc_plan_meaning.specs.Plans.{step_of}
 use Rattle.lrc_plan.specs.declared.waiting.Waiting.{Waiting}
 
 -- an action of a production with what it awaits, of which nothing was looked at yet

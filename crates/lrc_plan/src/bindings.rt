@@ -1,13 +1,13 @@
 ghost use Rattle.std.specs.Prelude.{◌≡◌, ℕ, ◌+◌, ◌-◌, ◌<◌, ◌≤◌, ◌^◌, ◌&&◌, ◌++◌, [], All, length, map, filter, flat_map, slice_index, slice_index_or, IfOk, OnOk};
 ghost use Rattle.std.specs.List.{range_with_len};
-ghost use Rattle.lrc_sequence.specs.declared.Bound.TheVariants as b;
-ghost use Rattle.lrc_sequence.specs.Bindings.{bindings_at};
+ghost use Rattle.lrc_plan_meaning.specs.declared.Bound.TheVariants as b;
+ghost use Rattle.lrc_plan_meaning.specs.Bindings.{bindings_at};
 ghost use Rattle.lrc_plan.specs.ItemSets.{holds};
 ghost use Rattle.lrc_plan.specs.Handing.{shared, shared_from, all_shared, listed_items};
 
 use crate::item_set::ItemSet;
 use lrc_base::{List, Memory};
-use lrc_sequence::Bound;
+use lrc_plan_meaning::Bound;
 use std::alloc::Global;
 
 /// Puts the values of so many occurrences behind the others.

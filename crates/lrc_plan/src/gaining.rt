@@ -1,8 +1,8 @@
 ghost use Rattle.std.specs.Prelude.{◌≡◌, ℕ, ◌+◌, ◌<◌, ◌^◌, ◌↔◌, ◌++◌, All, Contains, IsTrue, true, false, length, map, flat_map, IfOk};
 ghost use Rattle.lrc_meaning.specs.Grammar.{attrs_of_sort};
-ghost use Rattle.lrc_sequence.specs.declared.Bound as sequence;
-ghost use Rattle.lrc_sequence.specs.declared.Step as sequence_step;
-ghost use Rattle.lrc_sequence.specs.Items.{values_of_visit};
+ghost use Rattle.lrc_plan_meaning.specs.declared.Bound as sequence;
+ghost use Rattle.lrc_plan_meaning.specs.declared.Step as sequence_step;
+ghost use Rattle.lrc_plan_meaning.specs.Items.{values_of_visit};
 ghost use Rattle.lrc_plan.specs.declared.gaining.Shape as shape;
 ghost use Rattle.lrc_plan.specs.ItemSets.{holds, HasRoomFor, IsSetOf};
 ghost use Rattle.lrc_plan.specs.Gaining.{IsIn, gained_by, used_by, AreSetsOf};
@@ -10,8 +10,8 @@ ghost use Rattle.lrc_plan.specs.Gaining.{IsIn, gained_by, used_by, AreSetsOf};
 use crate::item_set::ItemSet;
 use crate::segments::insert_values;
 use lrc_base::{List, Memory, Sort};
-use lrc_order::Partition;
-use lrc_sequence::Step;
+use lrc_order_meaning::Partition;
+use lrc_plan_meaning::Step;
 use std::alloc::Global;
 
 /// How many occurrences a production has, and how many visits each of its symbols.

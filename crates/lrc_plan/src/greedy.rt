@@ -1,16 +1,16 @@
 ghost use Rattle.std.specs.Prelude.{◌≡◌, ℕ, ◌<◌, ◌≤◌, List, [], All, length, map, IfOk, OnOk, MatchOption};
 ghost use Rattle.lrc_base.specs.declared.grammar.Sort as base_sort;
 ghost use Rattle.lrc_base.specs.declared.grammar.Production as base_production;
-ghost use Rattle.lrc_order.specs.declared.Partition as order;
-ghost use Rattle.lrc_sequence.specs.declared.Bound as sequence;
-ghost use Rattle.lrc_sequence.specs.Sequences.{State, greedy};
+ghost use Rattle.lrc_order_meaning.specs.declared.Partition as order;
+ghost use Rattle.lrc_plan_meaning.specs.declared.Bound as sequence;
+ghost use Rattle.lrc_plan_meaning.specs.Sequences.{State, greedy};
 ghost use Rattle.lrc_plan.specs.ItemSets.{HasRoom};
 ghost use Rattle.lrc_plan.specs.Running.{unchecked, IsChecked, is_ready_in, IsFirst, PassesNone, IsLeft, StandsFor};
 
 use crate::item_set::ItemSet;
 use crate::waiting::Waiting;
 use lrc_base::{List, Memory};
-use lrc_sequence::Step;
+use lrc_plan_meaning::Step;
 use std::alloc::Global;
 
 /// Whether all that the action awaits is available. Only items that were not looked at yet are.

@@ -1,11 +1,11 @@
 ghost use Rattle.std.specs.Prelude.{◌≡◌, ℕ, ◌+◌, ◌<◌, ◌≤◌, ◌↔◌, ◌⊎◌, IsTrue, IfOk, All, Contains, [], length, slice_index_or, slice_set, true};
-ghost use Rattle.lrc_sequence.specs.declared.Bound as sequence;
-ghost use Rattle.lrc_sequence.specs.declared.Bound.TheVariants as b;
+ghost use Rattle.lrc_plan_meaning.specs.declared.Bound as sequence;
+ghost use Rattle.lrc_plan_meaning.specs.declared.Bound.TheVariants as b;
 ghost use Rattle.lrc_plan.specs.ItemSets.{row_of, holds, HasRoom, HasRoomFor};
 
 use crate::visit_table::VisitTable;
 use lrc_base::{List, Memory};
-use lrc_sequence::Bound;
+use lrc_plan_meaning::Bound;
 use sqlite_items::at;
 use std::alloc::Global;
 use std::marker::Model;

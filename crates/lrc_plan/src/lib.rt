@@ -19,7 +19,7 @@ mod visit_table;
 mod visits;
 mod waiting;
 
-pub use lrc_sequence::{Action, Bound, Sequences, Step};
+pub use lrc_plan_meaning::{Action, Bound, Sequences, Step};
 pub use parts_texts::parts_text;
 pub use plan_texts::plan_text;
 pub use planning::plan;

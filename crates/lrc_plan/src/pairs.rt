@@ -1,17 +1,17 @@
 ghost use Rattle.std.specs.Prelude.{◌≡◌, ℕ, ◌+◌, ◌<◌, ◌≤◌, ◌^◌, ◌++◌, [], All, length, map, filter, flat_map, slice_index_or, IfOk, OnOk};
 ghost use Rattle.std.specs.List.{range_with_len};
 ghost use Rattle.lrc_meaning.specs.Grammar.{attrs_of_sort, occurrences_of};
-ghost use Rattle.lrc_order.specs.declared.Need as order_need;
-ghost use Rattle.lrc_order.specs.declared.Place as order;
-ghost use Rattle.lrc_order.specs.Needs.{need, needs_of, places_of, equation_needs};
-ghost use Rattle.lrc_sequence.specs.Items.{comes_before, ordered_at, extended_of, firsts_of};
+ghost use Rattle.lrc_order_meaning.specs.declared.Need as order_need;
+ghost use Rattle.lrc_order_meaning.specs.declared.Place as order;
+ghost use Rattle.lrc_order_meaning.specs.Needs.{need, needs_of, places_of, equation_needs};
+ghost use Rattle.lrc_plan_meaning.specs.Items.{comes_before, ordered_at, extended_of, firsts_of};
 
 use crate::parts::comes_before;
 use lrc_base::{List, Memory, Production, Sort};
 use lrc_grammar::attrs_of_sort;
-use lrc_order::{Need, Partition, Place};
+use lrc_order_meaning::{Need, Partition, Place};
 use lrc_ordered::needs_of;
-use lrc_sequence::Bound;
+use lrc_plan_meaning::Bound;
 use std::alloc::Global;
 
 /// Puts a pair of an attribute's occurrence at a place with each that comes after it behind the others.

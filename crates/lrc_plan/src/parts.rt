@@ -1,10 +1,10 @@
 ghost use Rattle.std.specs.Prelude.{◌≡◌, ◌&&◌, ◌==◌, slice_index};
 ghost use Rattle.lrc_graph.specs.Pairs.{paired};
-ghost use Rattle.lrc_sequence.specs.Items.{visits_of, visit_of, comes_before, is_of};
+ghost use Rattle.lrc_plan_meaning.specs.Items.{visits_of, visit_of, comes_before, is_of};
 
 use lrc_base::Attr;
 use lrc_graph::Relation;
-use lrc_order::Partition;
+use lrc_order_meaning::Partition;
 use sqlite_items::at;
 
 /// How many visits a sort has; 0 where there is no such sort.

@@ -2,14 +2,14 @@ ghost use Rattle.std.specs.Prelude.{◌≡◌, ◌+◌, ◌<◌, ◌≤◌, ◌^
 ghost use Rattle.std.specs.List.{range_with_len};
 ghost use Rattle.lrc_grammar.specs.Grammar.{grammar_of};
 ghost use Rattle.lrc_meaning.specs.Grammar.{attrs_of_sort};
-ghost use Rattle.lrc_sequence.specs.Items.{attrs_of_visit, visits_of};
+ghost use Rattle.lrc_plan_meaning.specs.Items.{attrs_of_visit, visits_of};
 ghost use Rattle.lrc_plan.specs.Text.{comma_joined, attr_name, visit_names, visit_text, sort_text, parts_text};
 
 use crate::parts::{is_of_visit, visits_of};
 use crate::sequenced::Plan;
 use lrc_base::{Attr, Bytes, List, Memory, Sort};
 use lrc_grammar::attrs_of_sort;
-use lrc_order::Partition;
+use lrc_order_meaning::Partition;
 use std::alloc::Global;
 
 /// The attributes of one direction that a visit has.

@@ -8,7 +8,7 @@ use crate::names::{Names, names_of};
 use crate::sequenced::Plan;
 use itoa::Buffer;
 use lrc_base::{Bytes, List, Memory, Production, Sort};
-use lrc_sequence::{Action, Bound, Sequences};
+use lrc_plan_meaning::{Action, Bound, Sequences};
 use sqlite_items::at;
 use std::alloc::Global;
 

@@ -1,8 +1,8 @@
 ghost use Rattle.std.specs.Prelude.{◌≡◌, All, Contains, IfOk};
 ghost use Rattle.lrc_base.specs.declared.grammar.Production as base;
 ghost use Rattle.lrc_grammar.specs.Grammar.{grammar_of};
-ghost use Rattle.lrc_order.specs.Ordered.{ArePartitions, IsGivenThere, IsOrdered};
-ghost use Rattle.lrc_sequence.specs.Sound.{IsReady, IsSound};
+ghost use Rattle.lrc_order_meaning.specs.Ordered.{ArePartitions, IsGivenThere, IsOrdered};
+ghost use Rattle.lrc_plan_meaning.specs.Sound.{IsReady, IsSound};
 
 use crate::sequenced::Plan;
 use lrc_base::Memory;

@@ -1,9 +1,9 @@
 ghost use Rattle.std.specs.Prelude.{◌≡◌, ℕ, ◌+◌, ◌<◌, ◌^◌, ◌↔◌, ◌⊎◌, All, Contains, IsTrue, true, length, map, IfOk, OnOk};
 ghost use Rattle.lrc_meaning.specs.Grammar.{attrs_of_sort};
-ghost use Rattle.lrc_sequence.specs.declared.Bound as sequence;
-ghost use Rattle.lrc_sequence.specs.Items.{values_of_visit};
-ghost use Rattle.lrc_sequence.specs.Plans.{step_of};
-ghost use Rattle.lrc_sequence.specs.Sequences.{actions_of, segments_of};
+ghost use Rattle.lrc_plan_meaning.specs.declared.Bound as sequence;
+ghost use Rattle.lrc_plan_meaning.specs.Items.{values_of_visit};
+ghost use Rattle.lrc_plan_meaning.specs.Plans.{step_of};
+ghost use Rattle.lrc_plan_meaning.specs.Sequences.{actions_of, segments_of};
 ghost use Rattle.lrc_plan.specs.declared.waiting.Waiting as waiting;
 ghost use Rattle.lrc_plan.specs.ItemSets.{holds, HasRoom};
 ghost use Rattle.lrc_plan.specs.Waiting.{waiting_of};
@@ -14,8 +14,8 @@ use crate::parts::visits_of;
 use crate::visits::push_values;
 use crate::waiting::Waiting;
 use lrc_base::{List, Memory, Production, Sort};
-use lrc_order::{Partition, Place};
-use lrc_sequence::Step;
+use lrc_order_meaning::{Partition, Place};
+use lrc_plan_meaning::Step;
 use std::alloc::Global;
 
 /// Puts the values of the left side's attributes of one direction in a visit into a set.

@@ -1,17 +1,17 @@
 ghost use Rattle.std.specs.Prelude.{◌≡◌, ◌<◌, length, map, slice_get, IfOk, IfSome};
 ghost use Rattle.lrc_grammar.specs.Grammar.{grammar_of};
-ghost use Rattle.lrc_order.specs.Ordered.{ArePartitions};
-ghost use Rattle.lrc_sequence.specs.Bindings.{binding};
-ghost use Rattle.lrc_sequence.specs.Plans.{sequences_of};
-ghost use Rattle.lrc_sequence.specs.Sequences.{segment};
+ghost use Rattle.lrc_order_meaning.specs.Ordered.{ArePartitions};
+ghost use Rattle.lrc_plan_meaning.specs.Bindings.{binding};
+ghost use Rattle.lrc_plan_meaning.specs.Plans.{sequences_of};
+ghost use Rattle.lrc_plan_meaning.specs.Sequences.{segment};
 ghost use Rattle.lrc_plan.specs.Planned.{IsVisit};
 
 use crate::sequences::sequences;
 use lrc_base::{List, Memory};
 use lrc_grammar::Grammar;
-use lrc_order::Partition;
+use lrc_order_meaning::Partition;
 use lrc_ordered::Partitions;
-use lrc_sequence::{Action, Bound, Sequences};
+use lrc_plan_meaning::{Action, Bound, Sequences};
 use std::alloc::Global;
 
 /// Visit sequences and bindings of each production of a grammar. It owns the grammar and its

@@ -1,10 +1,10 @@
 ghost use Rattle.std.specs.Prelude.{◌≡◌, ℕ, ◌+◌, ◌<◌, ◌≤◌, ◌^◌, All, Contains, drop, length, map, IfOk, OnOk};
 ghost use Rattle.lrc_meaning.specs.Grammar.{attrs_of_sort, occurrences_of};
-ghost use Rattle.lrc_order.specs.Needs.{places_of, symbols_of};
-ghost use Rattle.lrc_sequence.specs.declared.Step as sequence;
-ghost use Rattle.lrc_sequence.specs.Items.{visits_of};
-ghost use Rattle.lrc_sequence.specs.Plans.{step_of, bindings_of, sequences_of};
-ghost use Rattle.lrc_sequence.specs.Sequences.{segments_of};
+ghost use Rattle.lrc_order_meaning.specs.Needs.{places_of, symbols_of};
+ghost use Rattle.lrc_plan_meaning.specs.declared.Step as sequence;
+ghost use Rattle.lrc_plan_meaning.specs.Items.{visits_of};
+ghost use Rattle.lrc_plan_meaning.specs.Plans.{step_of, bindings_of, sequences_of};
+ghost use Rattle.lrc_plan_meaning.specs.Sequences.{segments_of};
 ghost use Rattle.lrc_plan.specs.Gaining.{shape_of};
 
 use crate::bindings::{all_items, bindings};
@@ -14,9 +14,9 @@ use crate::segments::segments;
 use crate::waiting::waiting_actions;
 use lrc_base::{List, Memory, Production, Sort};
 use lrc_grammar::{Grammar, occurrences_of};
-use lrc_order::{Partition, Place};
+use lrc_order_meaning::{Partition, Place};
 use lrc_ordered::places_of;
-use lrc_sequence::{Action, Bound, Sequences, Step};
+use lrc_plan_meaning::{Action, Bound, Sequences, Step};
 use std::alloc::Global;
 
 /// The actions of a segment's steps.

@@ -1,14 +1,14 @@
 ghost use Rattle.std.specs.Prelude.{◌≡◌, ◌+◌, ◌-◌, ◌<◌, ◌≤◌, ◌^◌, ◌++◌, length, map, true, false, IfOk, OnOk};
 ghost use Rattle.std.specs.List.{range_with_len};
 ghost use Rattle.lrc_meaning.specs.Grammar.{attrs_of_sort};
-ghost use Rattle.lrc_sequence.specs.declared.Bound.TheVariants as b;
-ghost use Rattle.lrc_sequence.specs.Items.{visits_of, values_of_visit, taken, given_back};
+ghost use Rattle.lrc_plan_meaning.specs.declared.Bound.TheVariants as b;
+ghost use Rattle.lrc_plan_meaning.specs.Items.{visits_of, values_of_visit, taken, given_back};
 
 use crate::parts::{is_of_visit, visits_of};
 use lrc_base::{List, Memory, Sort};
 use lrc_grammar::attrs_of_sort;
-use lrc_order::{Partition, Place};
-use lrc_sequence::Bound;
+use lrc_order_meaning::{Partition, Place};
+use lrc_plan_meaning::Bound;
 use std::alloc::Global;
 
 /// Puts the values of a visit's attributes of one direction at a place behind the others.

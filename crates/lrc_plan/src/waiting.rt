@@ -1,13 +1,13 @@
 ghost use Rattle.std.specs.Prelude.{◌≡◌, ℕ, ◌+◌, ◌<◌, ◌≤◌, ◌^◌, ◌++◌, ◌∷◌, [], All, length, map, filter, flat_map, IfOk, OnOk};
 ghost use Rattle.std.specs.List.{range_with_len};
 ghost use Rattle.lrc_meaning.specs.Grammar.{attrs_of_sort, occurrences_of};
-ghost use Rattle.lrc_order.specs.declared.Need as order_need;
-ghost use Rattle.lrc_order.specs.declared.Place as order;
-ghost use Rattle.lrc_order.specs.Needs.{places_of, symbols_of, equation_needs};
-ghost use Rattle.lrc_sequence.specs.declared.Action.TheVariants as a;
-ghost use Rattle.lrc_sequence.specs.declared.Bound.TheVariants as b;
-ghost use Rattle.lrc_sequence.specs.Items.{visits_of, extended_of};
-ghost use Rattle.lrc_sequence.specs.Sequences.{is_defined, visits_at, actions_of};
+ghost use Rattle.lrc_order_meaning.specs.declared.Need as order_need;
+ghost use Rattle.lrc_order_meaning.specs.declared.Place as order;
+ghost use Rattle.lrc_order_meaning.specs.Needs.{places_of, symbols_of, equation_needs};
+ghost use Rattle.lrc_plan_meaning.specs.declared.Action.TheVariants as a;
+ghost use Rattle.lrc_plan_meaning.specs.declared.Bound.TheVariants as b;
+ghost use Rattle.lrc_plan_meaning.specs.Items.{visits_of, extended_of};
+ghost use Rattle.lrc_plan_meaning.specs.Sequences.{is_defined, visits_at, actions_of};
 ghost use Rattle.lrc_plan.specs.Waiting.{waiting_of, waiting_evaluation, waiting_visit};
 
 use crate::pairs::{extended, firsts};
@@ -15,9 +15,9 @@ use crate::parts::visits_of;
 use crate::visits::{given_back, taken};
 use lrc_base::{List, Memory, Production, Sort};
 use lrc_grammar::{Occurrence, occurrences_of};
-use lrc_order::{Need, Partition, Place};
+use lrc_order_meaning::{Need, Partition, Place};
 use lrc_ordered::push_equation_needs;
-use lrc_sequence::{Action, Bound, Step};
+use lrc_plan_meaning::{Action, Bound, Step};
 use std::alloc::Global;
 
 /// An action that was not done yet.

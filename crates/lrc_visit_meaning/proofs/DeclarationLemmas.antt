@@ -12,17 +12,17 @@ use Rattle.lrc_meaning.specs.Tree.{Tree, Trees, int, node, none, more}
 use Rattle.lrc_meaning.specs.Grammar.{Grammar}
 use Rattle.lrc_meaning.specs.Examples.{declarations, production, equals, two_declarations}
 use Rattle.lrc_meaning.proofs.ExpressionLemmas.{expression_equations}
-use Rattle.lrc_order.specs.declared.Partition.{Partition}
-use Rattle.lrc_sequence.specs.declared.Action.{Action}
-use Rattle.lrc_sequence.specs.declared.Action.TheVariants as a
-use Rattle.lrc_sequence.specs.declared.Bound.{Bound}
-use Rattle.lrc_sequence.specs.declared.Bound.TheVariants as b
-use Rattle.lrc_sequence.specs.Items.{visits_of, values_of_visit, makes}
-use Rattle.lrc_sequence.specs.Sequences.{segments_of, segment}
-use Rattle.lrc_sequence.specs.Bindings.{binding as items_between}
-use Rattle.lrc_sequence.specs.Sound.{handed_in}
-use Rattle.lrc_sequence.specs.Examples.{partitions, top, declaration, handed}
-use Rattle.lrc_sequence.proofs.DeclarationLemmas.{top_is, declaration_is, declaration_hands}
+use Rattle.lrc_order_meaning.specs.declared.Partition.{Partition}
+use Rattle.lrc_plan_meaning.specs.declared.Action.{Action}
+use Rattle.lrc_plan_meaning.specs.declared.Action.TheVariants as a
+use Rattle.lrc_plan_meaning.specs.declared.Bound.{Bound}
+use Rattle.lrc_plan_meaning.specs.declared.Bound.TheVariants as b
+use Rattle.lrc_plan_meaning.specs.Items.{visits_of, values_of_visit, makes}
+use Rattle.lrc_plan_meaning.specs.Sequences.{segments_of, segment}
+use Rattle.lrc_plan_meaning.specs.Bindings.{binding as items_between}
+use Rattle.lrc_plan_meaning.specs.Sound.{handed_in}
+use Rattle.lrc_plan_meaning.specs.Examples.{partitions, top, declaration, handed}
+use Rattle.lrc_plan_meaning.proofs.DeclarationLemmas.{top_is, declaration_is, declaration_hands}
 use Rattle.lrc_visit_meaning.specs.Values.{value, no_data, data_row, data_list, Call, Result, root_call}
 use Rattle.lrc_visit_meaning.specs.Visits.{nothing_held, holding, Walked, walk, are_of_kinds, values_at, held_at_start, result_of, step, visit_of_node, visit_of_tree, plain_visit}
 use Rattle.lrc_visit_meaning.specs.Examples.{number_result, no_items, second_item, both_items, first_call, second_call, first_result, declaration_binding}

@@ -13,12 +13,12 @@ use Rattle.lrc_meaning.specs.Expression.{Expression, literal, occurrence, leaf, 
 use Rattle.lrc_meaning.specs.Grammar.{Grammar}
 use Rattle.lrc_meaning.specs.Attribution.{Decorated, at_node, Parts, end, symbol, bare, occurrence_values, leaf_at}
 use Rattle.lrc_meaning.specs.Attribution as m
-use Rattle.lrc_order.specs.declared.Partition.{Partition}
-use Rattle.lrc_sequence.specs.declared.Action.{Action}
-use Rattle.lrc_sequence.specs.declared.Action.TheVariants as a
-use Rattle.lrc_sequence.specs.declared.Bound.{Bound}
-use Rattle.lrc_sequence.specs.Items.{symbol_at, makes, visits_of}
-use Rattle.lrc_sequence.specs.Sequences.{segment}
+use Rattle.lrc_order_meaning.specs.declared.Partition.{Partition}
+use Rattle.lrc_plan_meaning.specs.declared.Action.{Action}
+use Rattle.lrc_plan_meaning.specs.declared.Action.TheVariants as a
+use Rattle.lrc_plan_meaning.specs.declared.Bound.{Bound}
+use Rattle.lrc_plan_meaning.specs.Items.{symbol_at, makes, visits_of}
+use Rattle.lrc_plan_meaning.specs.Sequences.{segment}
 use Rattle.lrc_visit_meaning.specs.Values.{Call, Result}
 use Rattle.lrc_visit_meaning.specs.Visits.{Held, Given, Walked, walked_on, is_of_kind, are_of_kinds, leaf_in, equation_of, values_in, tree_at, call_of, held_at_start, step, plain_visit}
 use Rattle.lrc_visit_meaning.specs.Shown.{asked, answer, visit_height, face_of}

@@ -5,8 +5,8 @@ use Rattle.lrc_base.specs.declared.expr.Expr.TheVariants as e
 use Rattle.lrc_meaning.specs.Tree.{Tree, int, node, none, more}
 use Rattle.lrc_meaning.specs.Grammar.{Grammar}
 use Rattle.lrc_meaning.specs.Examples.{attr, equals, production}
-use Rattle.lrc_order.specs.declared.Partition.{Partition}
-use Rattle.lrc_sequence.specs.Examples.{alone}
+use Rattle.lrc_order_meaning.specs.declared.Partition.{Partition}
+use Rattle.lrc_plan_meaning.specs.Examples.{alone}
 use Rattle.lrc_visit_meaning.specs.Values.{value, binding, Data, data_row, Call, Result}
 
 -- sort S { syn v: Int; }

@@ -7,14 +7,14 @@ use Rattle.lrc_meaning.specs.Tree.{Tree}
 use Rattle.lrc_meaning.specs.Grammar.{Grammar}
 use Rattle.lrc_meaning.specs.Attribution.{Decorated, at_node, Parts, end, symbol, attributes_of, bare, occurrence_values}
 use Rattle.lrc_meaning.specs.Attribution as m
-use Rattle.lrc_order.specs.declared.Partition.{Partition}
-use Rattle.lrc_sequence.specs.declared.Action.{Action}
-use Rattle.lrc_sequence.specs.declared.Action.TheVariants as a
-use Rattle.lrc_sequence.specs.declared.Bound.{Bound}
-use Rattle.lrc_sequence.specs.declared.Bound.TheVariants as b
-use Rattle.lrc_sequence.specs.Items.{attrs_of_visit, visits_of}
-use Rattle.lrc_sequence.specs.Sequences.{segment}
-use Rattle.lrc_sequence.specs.Bindings.{binding as items_between}
+use Rattle.lrc_order_meaning.specs.declared.Partition.{Partition}
+use Rattle.lrc_plan_meaning.specs.declared.Action.{Action}
+use Rattle.lrc_plan_meaning.specs.declared.Action.TheVariants as a
+use Rattle.lrc_plan_meaning.specs.declared.Bound.{Bound}
+use Rattle.lrc_plan_meaning.specs.declared.Bound.TheVariants as b
+use Rattle.lrc_plan_meaning.specs.Items.{attrs_of_visit, visits_of}
+use Rattle.lrc_plan_meaning.specs.Sequences.{segment}
+use Rattle.lrc_plan_meaning.specs.Bindings.{binding as items_between}
 use Rattle.lrc_visit_meaning.specs.Values.{value, binding, Data, no_data, data_row, no_tree, Call, Result}
 use Rattle.lrc_visit_meaning.specs.Visits.{Held}
 

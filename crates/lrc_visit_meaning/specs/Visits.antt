@@ -14,15 +14,15 @@ use Rattle.lrc_base.specs.declared.grammar.Production.{Production}
 use Rattle.lrc_meaning.specs.Tree.{Tree, int, bool, name, node, Trees, none, more, is_sort, same_kind, kind_of, in_order}
 use Rattle.lrc_meaning.specs.Expression.{expression, value_of}
 use Rattle.lrc_meaning.specs.Grammar.{Grammar, occurrences_of}
-use Rattle.lrc_order.specs.declared.Partition.{Partition}
-use Rattle.lrc_sequence.specs.declared.Action.{Action}
-use Rattle.lrc_sequence.specs.declared.Action.TheVariants as a
-use Rattle.lrc_sequence.specs.declared.Bound.{Bound}
-use Rattle.lrc_sequence.specs.declared.Bound.TheVariants as b
-use Rattle.lrc_sequence.specs.Items.{same_item, visits_of, values_of_visit, symbol_at, makes}
-use Rattle.lrc_sequence.specs.Sequences.{segment}
-use Rattle.lrc_sequence.specs.Bindings.{binding as items_between}
-use Rattle.lrc_sequence.specs.Sound.{handed_in}
+use Rattle.lrc_order_meaning.specs.declared.Partition.{Partition}
+use Rattle.lrc_plan_meaning.specs.declared.Action.{Action}
+use Rattle.lrc_plan_meaning.specs.declared.Action.TheVariants as a
+use Rattle.lrc_plan_meaning.specs.declared.Bound.{Bound}
+use Rattle.lrc_plan_meaning.specs.declared.Bound.TheVariants as b
+use Rattle.lrc_plan_meaning.specs.Items.{same_item, visits_of, values_of_visit, symbol_at, makes}
+use Rattle.lrc_plan_meaning.specs.Sequences.{segment}
+use Rattle.lrc_plan_meaning.specs.Bindings.{binding as items_between}
+use Rattle.lrc_plan_meaning.specs.Sound.{handed_in}
 use Rattle.lrc_visit_meaning.specs.Values.{Datum, value, binding, no_data, data_row, data_list, no_tree, value_in, binding_in, Call, Result}
 
 -- What each item of a node holds. What an item holds that is not available yet is of no account.

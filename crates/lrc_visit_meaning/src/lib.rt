@@ -4,7 +4,7 @@
 
 ghost use Rattle.std.specs.Prelude.{◌≡◌, ℕ, Some, None};
 ghost use Rattle.lrc_meaning.specs.Examples.{declarations, two_declarations};
-ghost use Rattle.lrc_sequence.specs.Examples.{partitions};
+ghost use Rattle.lrc_plan_meaning.specs.Examples.{partitions};
 ghost use Rattle.lrc_visit_meaning.specs.Values.{root_call};
 ghost use Rattle.lrc_visit_meaning.specs.Visits.{plain_visit};
 ghost use Rattle.lrc_visit_meaning.specs.Examples.{endless, endless_partitions, loop, one, number_result};

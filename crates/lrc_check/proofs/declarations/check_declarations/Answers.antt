@@ -1,6 +1,6 @@
 use Rattle.std.proofs.Common.{◌≡◌, [], Err, sym, subst}
 use Rattle.lrc_base.specs.declared.raw.RawProd.{RawProd}
-use Rattle.lrc_faults.specs.Faults.{declaration_faults, each_after}
+use Rattle.lrc_fault_meaning.specs.Faults.{declaration_faults, each_after}
 use Rattle.lrc_check.specs.Verdict.{verdict}
 use Rattle.lrc_check.proofs.ListLemmas.{faulty_item}
 use Rattle.lrc_check.proofs.declarations.check_declarations.Goals as goal

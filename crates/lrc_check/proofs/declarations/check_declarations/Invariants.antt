@@ -1,6 +1,6 @@
 use Rattle.std.proofs.Common.{[]}
 use Rattle.lrc_base.specs.declared.raw.RawProd.{RawProd}
-use Rattle.lrc_faults.specs.Faults.{declaration_faults, each_after}
+use Rattle.lrc_fault_meaning.specs.Faults.{declaration_faults, each_after}
 use Rattle.lrc_check.proofs.ListLemmas.{EachRightBefore}
 use Rattle.lrc_check.proofs.declarations.check_declarations.Given as goal
 

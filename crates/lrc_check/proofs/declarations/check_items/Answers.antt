@@ -1,5 +1,5 @@
 use Rattle.std.proofs.Common.{sym}
-use Rattle.lrc_faults.specs.Faults.{declaration_faults}
+use Rattle.lrc_fault_meaning.specs.Faults.{declaration_faults}
 use Rattle.lrc_check.proofs.ListLemmas.{faulty_here}
 use Rattle.lrc_check.proofs.declarations.check_items.Goals as goal
 

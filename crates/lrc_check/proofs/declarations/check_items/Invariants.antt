@@ -1,4 +1,4 @@
-use Rattle.lrc_faults.specs.Faults.{declaration_faults}
+use Rattle.lrc_fault_meaning.specs.Faults.{declaration_faults}
 use Rattle.lrc_check.proofs.ListLemmas.{RightBefore}
 use Rattle.lrc_check.proofs.declarations.check_items.Given as goal
 

@@ -1,5 +1,5 @@
 use Rattle.std.proofs.Common.{◌≡◌, map, flat_map, take}
-use Rattle.lrc_faults.specs.Faults.{declared_by}
+use Rattle.lrc_fault_meaning.specs.Faults.{declared_by}
 use Rattle.lrc_check.specs.Declares.{declaration}
 use Rattle.lrc_check.proofs.declared.declared_by.Given as goal
 

@@ -1,4 +1,4 @@
-use Rattle.lrc_faults.specs.Faults.{item_faults}
+use Rattle.lrc_fault_meaning.specs.Faults.{item_faults}
 use Rattle.lrc_check.proofs.ListLemmas.{RightBefore}
 use Rattle.lrc_check.proofs.equations.check_items.Given as goal
 

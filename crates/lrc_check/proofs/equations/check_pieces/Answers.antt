@@ -1,5 +1,5 @@
 use Rattle.std.proofs.Common.{sym}
-use Rattle.lrc_faults.specs.Faults.{piece_faults}
+use Rattle.lrc_fault_meaning.specs.Faults.{piece_faults}
 use Rattle.lrc_check.proofs.ListLemmas.{faulty_item}
 use Rattle.lrc_check.proofs.equations.check_pieces.Goals as goal
 

@@ -1,4 +1,4 @@
-use Rattle.lrc_faults.specs.Faults.{piece_faults}
+use Rattle.lrc_fault_meaning.specs.Faults.{piece_faults}
 use Rattle.lrc_check.proofs.ListLemmas.{EachRightBefore}
 use Rattle.lrc_check.proofs.equations.check_pieces.Given as goal
 

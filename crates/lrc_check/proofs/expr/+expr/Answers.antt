@@ -4,7 +4,7 @@ use Rattle.std.specs.Str.{bytes_eq}
 use Rattle.lrc_base.specs.declared.raw.RawExpr.{RawExpr}
 use Rattle.lrc_base.specs.declared.raw.RawKind.TheVariants as rk
 use Rattle.lrc_base.specs.declared.raw.RawProd.{RawProd}
-use Rattle.lrc_faults.specs.Faults.{wrong_kind, target_fault, Found, checked, are_right, found_of}
+use Rattle.lrc_fault_meaning.specs.Faults.{wrong_kind, target_fault, Found, checked, are_right, found_of}
 use Rattle.lrc_check.specs.Verdict.{verdict, Finds, kids_of}
 use Rattle.lrc_check.proofs.ArgumentLemmas.{ArgumentsBefore, faults_of, no_arguments_yet, right_argument}
 use Rattle.lrc_check.proofs.FoundLemmas.{Make_unknown, Make_known}

@@ -1,4 +1,4 @@
-use Rattle.lrc_faults.specs.Faults.{wrong_kind, target_fault, found_of}
+use Rattle.lrc_fault_meaning.specs.Faults.{wrong_kind, target_fault, found_of}
 use Rattle.lrc_check.proofs.ArgumentLemmas.{ArgumentsBefore}
 use Rattle.lrc_check.proofs.expr.+expr.Given as goal
 

@@ -1,5 +1,5 @@
 use Rattle.std.proofs.Common.{◌≡◌, Err, sym, ap, subst, ◌∙◌}
-use Rattle.lrc_faults.specs.Faults.{body_faults}
+use Rattle.lrc_fault_meaning.specs.Faults.{body_faults}
 use Rattle.lrc_check.specs.Within.{Within}
 use Rattle.lrc_check.specs.Verdict.{verdict}
 use Rattle.lrc_check.proofs.ListLemmas.{fault_in, first_is}

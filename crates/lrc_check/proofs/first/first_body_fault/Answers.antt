@@ -1,5 +1,5 @@
 use Rattle.std.proofs.Common.{sym, ap, ◌∙◌, flat_map}
-use Rattle.lrc_faults.specs.Faults.{body_faults}
+use Rattle.lrc_fault_meaning.specs.Faults.{body_faults}
 use Rattle.lrc_check.proofs.ListLemmas.{fault_in, first_is, verdict_err, verdict_ok, faulty_item, right_item}
 use Rattle.lrc_check.proofs.first.first_body_fault.Goals as goal
 

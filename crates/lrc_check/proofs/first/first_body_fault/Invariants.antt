@@ -1,4 +1,4 @@
-use Rattle.lrc_faults.specs.Faults.{body_faults}
+use Rattle.lrc_fault_meaning.specs.Faults.{body_faults}
 use Rattle.lrc_check.proofs.ListLemmas.{EachRightBefore}
 use Rattle.lrc_check.proofs.first.first_body_fault.Given as goal
 

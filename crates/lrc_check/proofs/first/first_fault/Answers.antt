@@ -1,6 +1,6 @@
 use Rattle.std.proofs.Common.{◌≡◌, IfOk, sym, ap, subst, ◌∙◌, flat_map}
 use Rattle.std.specs.Prelude.{option_map}
-use Rattle.lrc_faults.specs.Faults.{body_faults, first, faults}
+use Rattle.lrc_fault_meaning.specs.Faults.{body_faults, first, faults}
 use Rattle.lrc_check.specs.Verdict.{verdict, answered, name_faults}
 use Rattle.lrc_check.proofs.ListLemmas.{fault_in, and_then, verdict_append, first_is}
 use Rattle.lrc_check.proofs.MissingLemmas.{behind_right, faults_are}

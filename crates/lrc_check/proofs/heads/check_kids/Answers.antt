@@ -1,5 +1,5 @@
 use Rattle.std.proofs.Common.{◌≡◌, [], Err, sym, subst}
-use Rattle.lrc_faults.specs.Faults.{kid_faults, each_after}
+use Rattle.lrc_fault_meaning.specs.Faults.{kid_faults, each_after}
 use Rattle.lrc_check.specs.Verdict.{verdict}
 use Rattle.lrc_check.proofs.ListLemmas.{faulty_here}
 use Rattle.lrc_check.proofs.heads.check_kids.Goals as goal

@@ -1,4 +1,4 @@
-use Rattle.lrc_faults.specs.Faults.{kid_faults}
+use Rattle.lrc_fault_meaning.specs.Faults.{kid_faults}
 use Rattle.lrc_check.proofs.ListLemmas.{RightBefore}
 use Rattle.lrc_check.proofs.heads.check_kids.Given as goal
 

@@ -1,4 +1,4 @@
-use Rattle.lrc_faults.specs.Faults.{missing_of_declared}
+use Rattle.lrc_fault_meaning.specs.Faults.{missing_of_declared}
 use Rattle.lrc_check.specs.declared.declared.Declared.{Declared}
 use Rattle.lrc_check.specs.Declares.{declaration}
 use Rattle.lrc_check.proofs.ListLemmas.{EachRightBefore}

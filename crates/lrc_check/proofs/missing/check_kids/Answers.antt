@@ -1,5 +1,5 @@
 use Rattle.std.proofs.Common.{sym}
-use Rattle.lrc_faults.specs.Faults.{missing_of_kid}
+use Rattle.lrc_fault_meaning.specs.Faults.{missing_of_kid}
 use Rattle.lrc_check.proofs.ListLemmas.{faulty_item}
 use Rattle.lrc_check.proofs.missing.check_kids.Goals as goal
 

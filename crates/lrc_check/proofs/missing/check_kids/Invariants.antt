@@ -1,4 +1,4 @@
-use Rattle.lrc_faults.specs.Faults.{missing_of_kid}
+use Rattle.lrc_fault_meaning.specs.Faults.{missing_of_kid}
 use Rattle.lrc_check.proofs.ListLemmas.{EachRightBefore}
 use Rattle.lrc_check.proofs.missing.check_kids.Given as goal
 

@@ -1,4 +1,4 @@
-use Rattle.lrc_faults.specs.Faults.{attr_faults}
+use Rattle.lrc_fault_meaning.specs.Faults.{attr_faults}
 use Rattle.lrc_check.proofs.ListLemmas.{RightBefore}
 use Rattle.lrc_check.proofs.sorts.check_attrs.Given as goal
 

@@ -1,5 +1,5 @@
 use Rattle.std.proofs.Common.{sym}
-use Rattle.lrc_faults.specs.Faults.{sort_faults}
+use Rattle.lrc_fault_meaning.specs.Faults.{sort_faults}
 use Rattle.lrc_check.proofs.ListLemmas.{faulty_here}
 use Rattle.lrc_check.proofs.sorts.check_sorts.Goals as goal
 

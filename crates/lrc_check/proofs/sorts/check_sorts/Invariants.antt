@@ -1,4 +1,4 @@
-use Rattle.lrc_faults.specs.Faults.{sort_faults}
+use Rattle.lrc_fault_meaning.specs.Faults.{sort_faults}
 use Rattle.lrc_check.proofs.ListLemmas.{RightBefore}
 use Rattle.lrc_check.proofs.sorts.check_sorts.Given as goal
 

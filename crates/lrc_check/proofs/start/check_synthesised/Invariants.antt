@@ -1,5 +1,5 @@
 use Rattle.std.proofs.Common.{◌≡◌, drop}
-use Rattle.lrc_faults.specs.Faults.{first_inherited}
+use Rattle.lrc_fault_meaning.specs.Faults.{first_inherited}
 use Rattle.lrc_check.specs.Verdict.{verdict}
 use Rattle.lrc_check.proofs.start.check_synthesised.Given as goal
 

@@ -1,5 +1,5 @@
 use Rattle.lrc_words.specs.declared.command.Command.{Command}
-use Rattle.lrc_lines.specs.Taken.{failure_of_text, failure_of_job}
+use Rattle.lrc_failures.specs.Taken.{failure_of_text, failure_of_job}
 use Rattle.lrc_cli.specs.Causes.{IsCause}
 use Rattle.lrc_cli.proofs.TopLemmas.{if_err, text_cause, job_cause}
 use Rattle.lrc_cli.proofs.job.accepted_job.Goals as goal

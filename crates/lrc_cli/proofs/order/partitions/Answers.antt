@@ -1,4 +1,4 @@
-use Rattle.lrc_lines.specs.declared.failure.Failure.TheVariants as f
+use Rattle.lrc_failures.specs.declared.failure.Failure.TheVariants as f
 use Rattle.lrc_cli.specs.Causes.{IsCause, no_memory}
 use Rattle.lrc_cli.proofs.TopLemmas.{if_err}
 use Rattle.lrc_cli.proofs.order.partitions.Goals as goal

@@ -2,7 +2,7 @@ use Rattle.std.proofs.Common.{◌∙◌, ℕ, ◌*◌, ◌<◌, ◌≤◌, map, 
 use Rattle.std.proofs.lemmas.List.{length-map}
 use Rattle.lrc_grammar.specs.Grammar.{grammar_of}
 use Rattle.lrc_job.specs.Job.{session}
-use Rattle.lrc_lines.specs.declared.failure.Failure.TheVariants as f
+use Rattle.lrc_failures.specs.declared.failure.Failure.TheVariants as f
 use Rattle.lrc_cli.specs.Causes.{row_limit, IsCause, too_many_rows, no_run, no_memory}
 use Rattle.lrc_cli.proofs.TopLemmas.{if_err}
 use Rattle.lrc_cli.proofs.RunLemmas.{not_built, not_many}

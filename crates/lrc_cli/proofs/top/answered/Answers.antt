@@ -1,6 +1,6 @@
 use Rattle.std.proofs.Common.{IsTrue, ℕ, List, subst}
 use Rattle.lrc_cli.specs.Causes.{IsCause}
-use Rattle.lrc_lines.specs.declared.failure.Failure.TheVariants as f
+use Rattle.lrc_failures.specs.declared.failure.Failure.TheVariants as f
 use Rattle.lrc_cli.specs.Headline.{IsOutputOf}
 use Rattle.lrc_cli.specs.Status.{Refused, is_refusal}
 use Rattle.lrc_cli.proofs.TopLemmas.{not_read, done, unwritten, never_usage, never_write, refused_for, same_err, if_err}

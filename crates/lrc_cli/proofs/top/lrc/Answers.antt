@@ -1,5 +1,5 @@
 use Rattle.std.proofs.Common.{◌≡◌, ◌∙◌, ◌⊎◌, ℕ, Err, ap, sym, subst}
-use Rattle.lrc_lines.specs.Lines.{status_of, IsStatus}
+use Rattle.lrc_failures.specs.Lines.{status_of, IsStatus}
 use Rattle.lrc_cli.proofs.TopLemmas.{is_failure, is_done, is_refusal_of, is_write, line_gained, done_or_memory, not_usage, not_refused}
 use Rattle.lrc_cli.proofs.top.lrc.Goals as goal
 

@@ -1,7 +1,7 @@
 use Rattle.std.proofs.Common.{◌≡◌, ◌<◌, [], List, length, get_or, subst, sym, ◌∙◌, All, arith, le_refl}
 use Rattle.std.proofs.lemmas.List.Elements.{All-same}
 use Rattle.lrc_graph.specs.Pairs.{Pairs}
-use Rattle.lrc_order.specs.declared.Place.{Place}
+use Rattle.lrc_order_meaning.specs.declared.Place.{Place}
 use Rattle.lrc_ordered.specs.Tables.{nothing, table_at, FitsIn}
 use Rattle.lrc_ordered.specs.Setup.{orders_of}
 use Rattle.std.proofs.lemmas.List.{get_or_default}

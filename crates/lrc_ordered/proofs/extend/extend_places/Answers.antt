@@ -1,10 +1,10 @@
 use Rattle.std.proofs.Common.{◌≡◌, ◌+◌, [], take, get_or, subst, sym, arith}
 use Rattle.std.specs.Prelude.{None}
 use Rattle.lrc_graph.specs.Pairs.{Pairs}
-use Rattle.lrc_order.specs.declared.Place.{Place}
+use Rattle.lrc_order_meaning.specs.declared.Place.{Place}
 use Rattle.lrc_ordered.specs.Tables.{Closed, HandedAt, HandedAmong, table_at, nothing}
 use Rattle.std.proofs.lemmas.List.{length-map, get_or_default}
-use Rattle.lrc_order.specs.declared.Partition.{Partition}
+use Rattle.lrc_order_meaning.specs.declared.Partition.{Partition}
 use Rattle.lrc_ordered.specs.Setup.{orders_of}
 use Rattle.lrc_ordered.proofs.SetupLemmas.{map_at}
 use Rattle.lrc_ordered.proofs.SpreadLemmas.{handed_among_more, none_among, closed_then, closed_none}

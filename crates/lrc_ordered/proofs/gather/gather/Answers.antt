@@ -1,7 +1,7 @@
 use Rattle.std.proofs.Common.{◌≡◌, ◌+◌, [], List, get_or, subst, sym, ◌∙◌, All, arith, inl, inr}
 use Rattle.std.proofs.lemmas.List.Elements.{All-weaker, All-same}
 use Rattle.lrc_graph.specs.Pairs.{Pairs}
-use Rattle.lrc_order.specs.declared.Place.{Place}
+use Rattle.lrc_order_meaning.specs.declared.Place.{Place}
 use Rattle.lrc_ordered.specs.Tables.{nothing, table_at, GatheredAll, JoinedAmong, JoinedIn, FitsIn}
 use Rattle.std.proofs.lemmas.List.{get_or_default}
 use Rattle.lrc_ordered.proofs.GatherLemmas.{same_joined, same_fits, gathered_then, JoinedBelow, joined_below_more, gathered_change}

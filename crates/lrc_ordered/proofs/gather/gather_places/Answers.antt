@@ -1,7 +1,7 @@
 use Rattle.std.proofs.Common.{◌<◌, subst, take, get_or, arith, length, ◌+◌}
 use Rattle.std.specs.Prelude.{None}
 use Rattle.lrc_graph.specs.Pairs.{Pairs}
-use Rattle.lrc_order.specs.declared.Place.{Place}
+use Rattle.lrc_order_meaning.specs.declared.Place.{Place}
 use Rattle.lrc_ordered.specs.Tables.{nothing, table_at, Gathered, JoinedAt, JoinedAmong}
 use Rattle.std.proofs.lemmas.List.{get_or_default}
 use Rattle.lrc_ordered.proofs.GatherLemmas.{gathered_set, joined_more}

@@ -1,7 +1,7 @@
 use Rattle.std.proofs.Common.{List, subst}
 use Rattle.lrc_graph.specs.Pairs.{Pairs}
 use Rattle.lrc_grammar.specs.Grammar.{grammar_of}
-use Rattle.lrc_order.specs.Induced.{Leads}
+use Rattle.lrc_order_meaning.specs.Induced.{Leads}
 use Rattle.lrc_ordered.specs.Cycles.{HasNone, IsFirst}
 use Rattle.lrc_ordered.proofs.CycleLemmas.{no_cycle, first_is}
 use Rattle.lrc_ordered.proofs.induce.acyclic_induced.Goals as goal

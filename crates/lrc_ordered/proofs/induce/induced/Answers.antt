@@ -4,8 +4,8 @@ use Rattle.lrc_base.specs.declared.grammar.Sort.{Sort}
 use Rattle.lrc_base.specs.declared.grammar.Production.{Production}
 use Rattle.lrc_meaning.specs.Grammar.{occurrences_of}
 use Rattle.lrc_grammar.specs.Grammar.{grammar_of}
-use Rattle.lrc_order.specs.declared.Place.{Place}
-use Rattle.lrc_order.specs.Needs.{needs_of, places_of}
+use Rattle.lrc_order_meaning.specs.declared.Place.{Place}
+use Rattle.lrc_order_meaning.specs.Needs.{needs_of, places_of}
 use Rattle.lrc_ordered.specs.Setup.{IsNeedBelow, HasNeeds, IsEmptyTable}
 use Rattle.lrc_ordered.specs.Tables.{AreTables, AreSettled, HasAt}
 use Rattle.lrc_ordered.proofs.SetupLemmas.{IsPut}

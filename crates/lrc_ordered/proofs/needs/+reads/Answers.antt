@@ -1,7 +1,7 @@
 use Rattle.std.proofs.Common.{◌∙◌, ◌+◌, ◌++◌, map, drop, ap}
 use Rattle.lrc_meaning.specs.Expression.{expression, expression_row}
 use Rattle.lrc_ordered.proofs.NeedLemmas.{nothing_read, both_read, choice_read, made_read, occurrence_read, read_next}
-use Rattle.lrc_order.specs.Needs.{need, reads_of_each}
+use Rattle.lrc_order_meaning.specs.Needs.{need, reads_of_each}
 use Rattle.lrc_ordered.proofs.needs.+reads.Goals as goal
 
 pub push_reads-returns-in_ok-push_reads-in-Op-2 : goal.push_reads-returns-in_ok-push_reads-in-Op-2

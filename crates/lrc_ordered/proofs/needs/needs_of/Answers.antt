@@ -1,8 +1,8 @@
 use Rattle.std.proofs.Common.{◌+◌, ◌<◌, ◌^◌, length, arith}
 use Rattle.std.proofs.lemmas.List.Elements.{All-same, All-weaker}
 use Rattle.lrc_meaning.specs.Grammar.{attrs_of_sort, occurrences_of}
-use Rattle.lrc_order.specs.declared.Place.{Place}
-use Rattle.lrc_order.specs.Needs.{places_of}
+use Rattle.lrc_order_meaning.specs.declared.Place.{Place}
+use Rattle.lrc_order_meaning.specs.Needs.{places_of}
 use Rattle.lrc_ordered.proofs.PlaceLemmas.{IsWithin, places_within}
 use Rattle.lrc_ordered.proofs.needs.needs_of.Goals as goal
 

@@ -2,10 +2,10 @@ use Rattle.std.proofs.Common.{◌≡◌, ◌<◌, ℕ, List, [], length, get_or,
 use Rattle.lrc_base.specs.declared.grammar.Given.{Given}
 use Rattle.lrc_graph.specs.Pairs.{Pairs}
 use Rattle.lrc_grammar.specs.Grammar.{grammar_of}
-use Rattle.lrc_order.specs.declared.Place.{Place}
-use Rattle.lrc_order.specs.Induced.{Leads}
-use Rattle.lrc_order.specs.Extended.{ExtendedPath}
-use Rattle.lrc_order.specs.Ordered.{IsAcyclic}
+use Rattle.lrc_order_meaning.specs.declared.Place.{Place}
+use Rattle.lrc_order_meaning.specs.Induced.{Leads}
+use Rattle.lrc_order_meaning.specs.Extended.{ExtendedPath}
+use Rattle.lrc_order_meaning.specs.Ordered.{IsAcyclic}
 use Rattle.lrc_ordered.specs.Cycles.{HasNone, IsFirst}
 use Rattle.lrc_ordered.specs.Setup.{AreInduced, orders_of}
 use Rattle.lrc_ordered.specs.Tables.{table_at, Closed, HandedAmong, FitsIn}

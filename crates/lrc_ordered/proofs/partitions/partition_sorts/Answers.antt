@@ -4,10 +4,10 @@ use Rattle.lrc_base.specs.declared.grammar.Sort.{Sort}
 use Rattle.lrc_base.specs.declared.grammar.Attr.{Attr}
 use Rattle.lrc_grammar.specs.Grammar.{grammar_of}
 use Rattle.lrc_meaning.specs.Grammar.{attrs_of_sort}
-use Rattle.lrc_order.specs.declared.Partition.{Partition}
+use Rattle.lrc_order_meaning.specs.declared.Partition.{Partition}
 use Rattle.lrc_base.specs.declared.grammar.Given.{Given}
-use Rattle.lrc_order.specs.Induced.{Induced}
-use Rattle.lrc_order.specs.Ordered.{IsPartition, IsAcyclic}
+use Rattle.lrc_order_meaning.specs.Induced.{Induced}
+use Rattle.lrc_order_meaning.specs.Ordered.{IsPartition, IsAcyclic}
 use Rattle.lrc_ordered.specs.Tables.{table_at, nothing}
 use Rattle.std.proofs.lemmas.List.{get_or_default}
 use Rattle.lrc_ordered.proofs.OrderLemmas.{table_transitive, table_acyclic, pushed, few_attrs, attrs_at}

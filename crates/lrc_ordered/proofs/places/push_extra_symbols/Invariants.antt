@@ -1,5 +1,5 @@
 use Rattle.std.proofs.Common.{◌≡◌, ◌+◌, ◌++◌, drop}
-use Rattle.lrc_order.specs.Needs.{extra_symbols, extra_count}
+use Rattle.lrc_order_meaning.specs.Needs.{extra_symbols, extra_count}
 use Rattle.lrc_ordered.proofs.places.push_extra_symbols.Given as goal
 
 abbrev pub invariant-loop-extra : goal.invariant-loop-extra

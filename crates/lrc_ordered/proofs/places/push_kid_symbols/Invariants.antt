@@ -1,5 +1,5 @@
 use Rattle.std.proofs.Common.{◌≡◌, ◌+◌, ◌++◌, drop}
-use Rattle.lrc_order.specs.Needs.{kid_symbols, kid_count}
+use Rattle.lrc_order_meaning.specs.Needs.{kid_symbols, kid_count}
 use Rattle.lrc_ordered.proofs.places.push_kid_symbols.Given as goal
 
 abbrev pub invariant-loop-kid : goal.invariant-loop-kid

@@ -1,5 +1,5 @@
 use Rattle.std.proofs.Common.{get_or, ◌∙◌}
-use Rattle.lrc_order.specs.declared.Need.{Need}
+use Rattle.lrc_order_meaning.specs.declared.Need.{Need}
 use Rattle.std.proofs.lemmas.List.{get_or_default}
 use Rattle.lrc_ordered.proofs.SetupLemmas.{needs_more, needs_all}
 use Rattle.lrc_ordered.proofs.setup.add_needs.Goals as goal

@@ -1,6 +1,6 @@
 use Rattle.std.proofs.Common.{◌≡◌, ◌⊎◌, take, Contains}
 use Rattle.lrc_graph.specs.Pairs.{Has, HasExactly}
-use Rattle.lrc_order.specs.Needs.{need}
+use Rattle.lrc_order_meaning.specs.Needs.{need}
 use Rattle.lrc_ordered.proofs.setup.add_needs.Given as goal
 
 abbrev pub invariant-loop-need : goal.invariant-loop-need

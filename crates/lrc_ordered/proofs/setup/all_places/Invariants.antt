@@ -1,5 +1,5 @@
 use Rattle.std.proofs.Common.{◌≡◌, map, take}
-use Rattle.lrc_order.specs.Needs.{places_of}
+use Rattle.lrc_order_meaning.specs.Needs.{places_of}
 use Rattle.lrc_ordered.proofs.setup.all_places.Given as goal
 
 abbrev pub invariant-loop-production : goal.invariant-loop-production

@@ -1,8 +1,8 @@
 use Rattle.std.proofs.Common.{◌≡◌, ◌+◌, List, take, sym, ap, subst, ◌∙◌, Contains, get_or}
 use Rattle.std.specs.List.{AllZip}
 use Rattle.lrc_graph.specs.Pairs.{HasExactly}
-use Rattle.lrc_order.specs.declared.Need.{Need}
-use Rattle.lrc_order.specs.Needs.{need, needs_of}
+use Rattle.lrc_order_meaning.specs.declared.Need.{Need}
+use Rattle.lrc_order_meaning.specs.Needs.{need, needs_of}
 use Rattle.lrc_ordered.specs.Setup.{HasNeeds}
 use Rattle.lrc_ordered.proofs.SetupLemmas.{zip_more, map_at, paths_of}
 use Rattle.lrc_ordered.proofs.setup.closed_tables.Goals as goal

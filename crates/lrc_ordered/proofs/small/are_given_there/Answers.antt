@@ -2,7 +2,7 @@ use Rattle.std.proofs.Common.{get_or, refl, subst}
 use Rattle.std.specs.Prelude.{List}
 use Rattle.lrc_base.specs.declared.grammar.Given.{Given}
 use Rattle.lrc_base.specs.declared.grammar.Sort.{Sort}
-use Rattle.lrc_order.specs.Ordered.{IsGivenThere}
+use Rattle.lrc_order_meaning.specs.Ordered.{IsGivenThere}
 use Rattle.std.proofs.lemmas.List.{get_or_default}
 use Rattle.lrc_ordered.proofs.AllLemmas.{all_next, all_done}
 use Rattle.lrc_ordered.proofs.small.are_given_there.Goals as goal

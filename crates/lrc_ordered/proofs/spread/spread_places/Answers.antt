@@ -1,7 +1,7 @@
 use Rattle.std.proofs.Common.{◌≡◌, ◌+◌, [], take, get_or, subst, ◌∙◌}
 use Rattle.std.specs.Prelude.{None}
 use Rattle.lrc_graph.specs.Pairs.{Pairs}
-use Rattle.lrc_order.specs.declared.Place.{Place}
+use Rattle.lrc_order_meaning.specs.declared.Place.{Place}
 use Rattle.lrc_ordered.specs.Tables.{Closed, HandedAt, HandedAmong, table_at, nothing}
 use Rattle.std.proofs.lemmas.List.{get_or_default}
 use Rattle.lrc_ordered.proofs.SpreadLemmas.{handed_among_more, none_among, closed_then, closed_none}

@@ -1,8 +1,8 @@
 use Rattle.std.proofs.Common.{map}
 use Rattle.std.specs.Prelude.{slice_index}
 use Rattle.std.specs.List.{range_with_len}
-use Rattle.lrc_sequence.specs.declared.Bound.TheVariants as b
-use Rattle.lrc_sequence.specs.Bindings.{bindings_at}
+use Rattle.lrc_plan_meaning.specs.declared.Bound.TheVariants as b
+use Rattle.lrc_plan_meaning.specs.Bindings.{bindings_at}
 use Rattle.lrc_plan.proofs.PairLemmas.{flat_range_more}
 use Rattle.lrc_plan.proofs.bindings.all_items.Goals as goal
 

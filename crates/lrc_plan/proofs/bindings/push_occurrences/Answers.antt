@@ -1,5 +1,5 @@
 use Rattle.std.proofs.Common.{◌+◌, arith}
-use Rattle.lrc_sequence.specs.declared.Bound.TheVariants as b
+use Rattle.lrc_plan_meaning.specs.declared.Bound.TheVariants as b
 use Rattle.lrc_plan.proofs.VisitLemmas.{row_more}
 use Rattle.lrc_plan.proofs.bindings.push_occurrences.Goals as goal
 

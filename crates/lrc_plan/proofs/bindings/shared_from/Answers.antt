@@ -1,7 +1,7 @@
 use Rattle.std.proofs.Common.{◌≡◌, ◌+◌, ◌-◌, ◌++◌, ◌∷◌, [], List, length, map, ap, ◌∙◌, arith}
 use Rattle.std.specs.Prelude.{slice_index_or}
 use Rattle.std.specs.List.{range_with_len}
-use Rattle.lrc_sequence.specs.declared.Bound.{Bound}
+use Rattle.lrc_plan_meaning.specs.declared.Bound.{Bound}
 use Rattle.std.proofs.lemmas.List.{get_or_default}
 use Rattle.lrc_plan.specs.ItemSets.{Flags}
 use Rattle.lrc_plan.specs.Handing.{shared, no_items}

@@ -1,7 +1,7 @@
 use Rattle.std.proofs.Common.{◌↔◌, ◌⊎◌, IsTrue, Contains, take}
 use Rattle.std.specs.Prelude.{flat_map}
-use Rattle.lrc_sequence.specs.declared.Bound as sequence
-use Rattle.lrc_sequence.specs.declared.Step.{Step}
+use Rattle.lrc_plan_meaning.specs.declared.Bound as sequence
+use Rattle.lrc_plan_meaning.specs.declared.Step.{Step}
 use Rattle.lrc_plan.specs.ItemSets.{holds, HasRoom}
 use Rattle.lrc_plan.proofs.gaining.gained.Given as goal
 

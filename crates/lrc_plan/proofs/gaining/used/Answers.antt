@@ -1,8 +1,8 @@
 use Rattle.std.proofs.Common.{◌++◌, List, subst, false, arith}
 use Rattle.std.specs.Prelude.{flat_map}
 use Rattle.std.proofs.lemmas.List.{take_all}
-use Rattle.lrc_sequence.specs.declared.Step.{Step}
-use Rattle.lrc_sequence.specs.Items.{values_of_visit}
+use Rattle.lrc_plan_meaning.specs.declared.Step.{Step}
+use Rattle.lrc_plan_meaning.specs.Items.{values_of_visit}
 use Rattle.lrc_plan.proofs.GainLemmas.{Grows, grows_twice, set_of, steps_more}
 use Rattle.lrc_plan.proofs.gaining.used.Goals as goal
 

@@ -1,7 +1,7 @@
 use Rattle.std.proofs.Common.{◌≡◌, List, All, inl, sym, ap, subst, ◌∙◌, length, get_or, IsTrue, Contains, ◌⊎◌, ◌↔◌}
 use Rattle.std.specs.Prelude.{remove}
-use Rattle.lrc_sequence.specs.declared.Bound.{Bound}
-use Rattle.lrc_sequence.specs.Sequences.{State}
+use Rattle.lrc_plan_meaning.specs.declared.Bound.{Bound}
+use Rattle.lrc_plan_meaning.specs.Sequences.{State}
 use Rattle.lrc_plan.specs.declared.waiting.Waiting.{Waiting}
 use Rattle.lrc_plan.specs.ItemSets.{holds, HasRoom}
 use Rattle.lrc_plan.specs.Running.{IsLeft, StandsFor}

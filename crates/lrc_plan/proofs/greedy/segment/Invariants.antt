@@ -1,9 +1,9 @@
 use Rattle.std.proofs.Common.{◌≡◌, List, [], length}
 use Rattle.lrc_base.specs.declared.grammar.Sort.{Sort}
 use Rattle.lrc_base.specs.declared.grammar.Production.{Production}
-use Rattle.lrc_order.specs.declared.Partition.{Partition}
-use Rattle.lrc_sequence.specs.declared.Bound as sequence
-use Rattle.lrc_sequence.specs.Sequences.{State, greedy}
+use Rattle.lrc_order_meaning.specs.declared.Partition.{Partition}
+use Rattle.lrc_plan_meaning.specs.declared.Bound as sequence
+use Rattle.lrc_plan_meaning.specs.Sequences.{State, greedy}
 use Rattle.lrc_plan.specs.ItemSets.{HasRoom}
 use Rattle.lrc_plan.specs.Running.{IsLeft, StandsFor}
 use Rattle.lrc_plan.proofs.greedy.segment.Given as goal

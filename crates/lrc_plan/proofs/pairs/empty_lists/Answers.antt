@@ -1,8 +1,8 @@
 use Rattle.std.proofs.Common.{◌≡◌, [], arith, ◌∙◌, sym, ap, ◌++◌, ◌∷◌, ◌+◌, List, map}
 use Rattle.std.specs.List.{range_with_len}
 use Rattle.std.proofs.lemmas.List.FromFn.{map-range_with_len_more}
-use Rattle.lrc_sequence.specs.declared.Bound.{Bound}
-use Rattle.lrc_sequence.specs.Items.{firsts_of}
+use Rattle.lrc_plan_meaning.specs.declared.Bound.{Bound}
+use Rattle.lrc_plan_meaning.specs.Items.{firsts_of}
 use Rattle.lrc_plan.proofs.pairs.empty_lists.Goals as goal
 
 pub lists-preserved : goal.lists-preserved

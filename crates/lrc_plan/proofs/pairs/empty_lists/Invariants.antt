@@ -1,6 +1,6 @@
 use Rattle.std.proofs.Common.{◌≡◌, [], map}
 use Rattle.std.specs.List.{range_with_len}
-use Rattle.lrc_sequence.specs.Items.{firsts_of}
+use Rattle.lrc_plan_meaning.specs.Items.{firsts_of}
 use Rattle.lrc_plan.proofs.pairs.empty_lists.Given as goal
 
 abbrev pub invariant-lists : goal.invariant-lists

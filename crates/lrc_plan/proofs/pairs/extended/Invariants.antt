@@ -1,7 +1,7 @@
 use Rattle.std.proofs.Common.{◌≡◌, ◌++◌, take}
 use Rattle.std.specs.Prelude.{flat_map}
-use Rattle.lrc_order.specs.Needs.{needs_of}
-use Rattle.lrc_sequence.specs.Items.{ordered_at}
+use Rattle.lrc_order_meaning.specs.Needs.{needs_of}
+use Rattle.lrc_plan_meaning.specs.Items.{ordered_at}
 use Rattle.lrc_plan.proofs.pairs.extended.Given as goal
 
 abbrev pub invariant-places : goal.invariant-places

@@ -1,7 +1,7 @@
 use Rattle.std.proofs.Common.{◌≡◌, ◌<◌, [], arith, ◌∙◌, ap, ◌++◌, ◌∷◌, List, get_or, length}
-use Rattle.lrc_order.specs.declared.Need.{Need}
-use Rattle.lrc_sequence.specs.declared.Bound.{Bound}
-use Rattle.lrc_sequence.specs.declared.Bound.TheVariants as item
+use Rattle.lrc_order_meaning.specs.declared.Need.{Need}
+use Rattle.lrc_plan_meaning.specs.declared.Bound.{Bound}
+use Rattle.lrc_plan_meaning.specs.declared.Bound.TheVariants as item
 use Rattle.std.proofs.lemmas.List.{get_or_default}
 use Rattle.lrc_plan.proofs.PairLemmas.{lists_more, lists_count}
 use Rattle.lrc_plan.proofs.pairs.firsts.Goals as goal

@@ -1,7 +1,7 @@
 use Rattle.std.proofs.Common.{◌+◌, sym, ◌∙◌, ℕ, Bool}
-use Rattle.lrc_order.specs.declared.Need.{Need}
-use Rattle.lrc_order.specs.Needs.{need}
-use Rattle.lrc_sequence.specs.Items.{comes_before}
+use Rattle.lrc_order_meaning.specs.declared.Need.{Need}
+use Rattle.lrc_order_meaning.specs.Needs.{need}
+use Rattle.lrc_plan_meaning.specs.Items.{comes_before}
 use Rattle.lrc_plan.proofs.VisitLemmas.{passed_on, passed_by}
 use Rattle.lrc_plan.proofs.pairs.push_after.Goals as goal
 use Rattle.lrc_plan.proofs.pairs.push_after.Goals.{then-comes_before+in_ok-push, else-comes_before}

@@ -1,6 +1,6 @@
 use Rattle.std.proofs.Common.{◌≡◌, ◌+◌, ◌++◌}
-use Rattle.lrc_order.specs.Needs.{need}
-use Rattle.lrc_sequence.specs.Items.{comes_before}
+use Rattle.lrc_order_meaning.specs.Needs.{need}
+use Rattle.lrc_plan_meaning.specs.Items.{comes_before}
 use Rattle.lrc_plan.proofs.VisitLemmas.{passed}
 use Rattle.lrc_plan.proofs.pairs.push_after.Given as goal
 

@@ -1,8 +1,8 @@
 use Rattle.std.proofs.Common.{◌≡◌, ◌+◌, ◌++◌, map}
 use Rattle.std.specs.Prelude.{filter, flat_map}
 use Rattle.std.specs.List.{range_with_len}
-use Rattle.lrc_order.specs.Needs.{need}
-use Rattle.lrc_sequence.specs.Items.{comes_before}
+use Rattle.lrc_order_meaning.specs.Needs.{need}
+use Rattle.lrc_plan_meaning.specs.Items.{comes_before}
 use Rattle.lrc_plan.proofs.pairs.push_ordered.Given as goal
 
 abbrev pub invariant-attributes : goal.invariant-attributes

@@ -1,5 +1,5 @@
 use Rattle.std.proofs.Common.{◌&&◌, ◌==◌, ◌++◌, ◌∷◌, [], true, false, sym, ap, ◌∙◌, ℕ, Bool, append-nil}
-use Rattle.lrc_sequence.specs.Items.{is_of, visit_of}
+use Rattle.lrc_plan_meaning.specs.Items.{is_of, visit_of}
 use Rattle.lrc_plan.proofs.VisitLemmas.{filtered_more}
 use Rattle.lrc_plan.proofs.parts_texts.attrs_of_visit.Goals as goal
 use Rattle.lrc_plan.proofs.parts_texts.attrs_of_visit.Goals.{then-is_of_visit+in_ok-push, else-is_of_visit}

@@ -1,7 +1,7 @@
 use Rattle.std.proofs.Common.{◌≡◌, ◌&&◌, ◌==◌}
 use Rattle.std.specs.Prelude.{filter}
 use Rattle.std.specs.List.{range_with_len}
-use Rattle.lrc_sequence.specs.Items.{is_of, visit_of}
+use Rattle.lrc_plan_meaning.specs.Items.{is_of, visit_of}
 use Rattle.lrc_plan.proofs.parts_texts.attrs_of_visit.Given as goal
 
 abbrev pub invariant-attributes : goal.invariant-attributes

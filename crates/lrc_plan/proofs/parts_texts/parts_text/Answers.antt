@@ -1,7 +1,7 @@
 use Rattle.std.proofs.Common.{◌≡◌, ◌<◌, ◌^◌, ◌++◌, List, [], length, sym, ap, subst, ◌∙◌}
 use Rattle.lrc_base.specs.declared.grammar.Sort.{Sort}
-use Rattle.lrc_order.specs.declared.Partition.{Partition}
-use Rattle.lrc_order.specs.Ordered.{Partitions}
+use Rattle.lrc_order_meaning.specs.declared.Partition.{Partition}
+use Rattle.lrc_order_meaning.specs.Ordered.{Partitions}
 use Rattle.lrc_grammar.specs.declared.grammar.Grammar.{Grammar}
 use Rattle.lrc_grammar.specs.Grammar.{grammar_of}
 use Rattle.lrc_meaning.specs.Grammar.{attrs_of_sort}

@@ -3,8 +3,8 @@ use Rattle.std.proofs.lemmas.List.{get_or-map}
 use Rattle.lrc_base.specs.declared.grammar.Sort.{Sort}
 use Rattle.lrc_base.specs.declared.grammar.Production.{Production}
 use Rattle.lrc_grammar.specs.declared.grammar.Grammar.{Grammar}
-use Rattle.lrc_sequence.specs.declared.Sequences.{Sequences}
-use Rattle.lrc_sequence.specs.Plans.{sequences_of}
+use Rattle.lrc_plan_meaning.specs.declared.Sequences.{Sequences}
+use Rattle.lrc_plan_meaning.specs.Plans.{sequences_of}
 use Rattle.lrc_plan.specs.Text.{production_lines}
 use Rattle.lrc_plan.proofs.PairLemmas.{flat_list_more}
 use Rattle.lrc_plan.proofs.plan_texts.plan_text.Goals as goal

@@ -1,6 +1,6 @@
 use Rattle.std.proofs.Common.{◌≡◌, take}
 use Rattle.std.specs.Prelude.{flat_map}
-use Rattle.lrc_sequence.specs.Plans.{sequences_of}
+use Rattle.lrc_plan_meaning.specs.Plans.{sequences_of}
 use Rattle.lrc_plan.specs.Text.{production_lines}
 use Rattle.lrc_plan.proofs.plan_texts.plan_text.Given as goal
 

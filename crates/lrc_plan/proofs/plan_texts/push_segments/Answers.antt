@@ -1,5 +1,5 @@
 use Rattle.std.proofs.Common.{◌+◌, ◌++◌, [], List, get_or, ap, ◌∙◌}
-use Rattle.lrc_sequence.specs.declared.Action.{Action}
+use Rattle.lrc_plan_meaning.specs.declared.Action.{Action}
 use Rattle.std.proofs.lemmas.List.{get_or_default}
 use Rattle.lrc_plan.specs.Text.{segment_line}
 use Rattle.lrc_plan.proofs.PairLemmas.{flat_range_more}

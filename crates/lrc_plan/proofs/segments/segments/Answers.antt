@@ -1,5 +1,5 @@
 use Rattle.std.proofs.Common.{◌+◌, ◌<◌, subst, inl, refl, arith}
-use Rattle.lrc_sequence.specs.Items.{visits_of}
+use Rattle.lrc_plan_meaning.specs.Items.{visits_of}
 use Rattle.lrc_plan.proofs.SegmentLemmas.{left_grown}
 use Rattle.lrc_plan.proofs.SegmentLemmas.{starts_left, starts, found_more, all_found}
 use Rattle.lrc_plan.proofs.segments.segments.Goals as goal

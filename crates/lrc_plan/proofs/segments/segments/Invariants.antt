@@ -1,4 +1,4 @@
-use Rattle.lrc_sequence.specs.declared.Bound as sequence
+use Rattle.lrc_plan_meaning.specs.declared.Bound as sequence
 use Rattle.lrc_plan.specs.ItemSets.{HasRoom}
 use Rattle.lrc_plan.specs.Running.{IsLeft, FoundSo}
 use Rattle.lrc_plan.proofs.segments.segments.Given as goal

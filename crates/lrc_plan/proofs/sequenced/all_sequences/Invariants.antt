@@ -1,5 +1,5 @@
 use Rattle.std.proofs.Common.{◌≡◌, map, take}
-use Rattle.lrc_sequence.specs.Plans.{sequences_of}
+use Rattle.lrc_plan_meaning.specs.Plans.{sequences_of}
 use Rattle.lrc_plan.proofs.sequenced.all_sequences.Given as goal
 
 abbrev pub invariant-productions : goal.invariant-productions

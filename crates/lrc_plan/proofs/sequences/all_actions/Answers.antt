@@ -1,5 +1,5 @@
 use Rattle.std.proofs.Common.{map, ◌∙◌, ap}
-use Rattle.lrc_sequence.specs.declared.Step.{Step}
+use Rattle.lrc_plan_meaning.specs.declared.Step.{Step}
 use Rattle.lrc_plan.proofs.BindingLemmas.{mapped_more}
 use Rattle.lrc_plan.proofs.sequences.all_actions.Goals as goal
 

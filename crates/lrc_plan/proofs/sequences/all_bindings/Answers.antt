@@ -1,11 +1,11 @@
 use Rattle.std.proofs.Common.{◌≡◌, ℕ, List, All, true, false, sym, ap, subst, ◌∙◌}
 use Rattle.lrc_base.specs.declared.grammar.Sort.{Sort}
 use Rattle.lrc_grammar.specs.Grammar.{grammar_of}
-use Rattle.lrc_sequence.specs.declared.Bound.{Bound}
-use Rattle.lrc_sequence.specs.declared.Step.{Step}
-use Rattle.lrc_sequence.specs.Items.{values_of_visit}
-use Rattle.lrc_sequence.specs.Plans.{step_of}
-use Rattle.lrc_sequence.specs.Sequences.{actions_of}
+use Rattle.lrc_plan_meaning.specs.declared.Bound.{Bound}
+use Rattle.lrc_plan_meaning.specs.declared.Step.{Step}
+use Rattle.lrc_plan_meaning.specs.Items.{values_of_visit}
+use Rattle.lrc_plan_meaning.specs.Plans.{step_of}
+use Rattle.lrc_plan_meaning.specs.Sequences.{actions_of}
 use Rattle.std.proofs.lemmas.List.Elements.{All-weaker}
 use Rattle.lrc_plan.specs.declared.gaining.Shape.{Shape}
 use Rattle.lrc_plan.specs.Gaining.{shape_of, IsIn, gained_by, used_by, AreSetsOf}

@@ -1,18 +1,18 @@
 use Rattle.std.proofs.Common.{◌≡◌, ℕ, ◌+◌, ◌<◌, ◌^◌, List, All, drop, length, map, true, sym, ap, subst, ◌∙◌, refl}
 use Rattle.lrc_base.specs.declared.grammar.Sort.{Sort}
 use Rattle.lrc_base.specs.declared.grammar.Production.{Production}
-use Rattle.lrc_order.specs.declared.Partition.{Partition}
-use Rattle.lrc_sequence.specs.declared.Action.{Action}
-use Rattle.lrc_sequence.specs.declared.Bound.{Bound}
+use Rattle.lrc_order_meaning.specs.declared.Partition.{Partition}
+use Rattle.lrc_plan_meaning.specs.declared.Action.{Action}
+use Rattle.lrc_plan_meaning.specs.declared.Bound.{Bound}
 use Rattle.lrc_grammar.specs.Grammar.{grammar_of}
 use Rattle.lrc_meaning.specs.Grammar.{attrs_of_sort, occurrences_of}
-use Rattle.lrc_order.specs.declared.Need.{Need}
-use Rattle.lrc_order.specs.declared.Place.{Place}
-use Rattle.lrc_order.specs.Needs.{symbols_of, places_of}
-use Rattle.lrc_sequence.specs.declared.Step.{Step}
-use Rattle.lrc_sequence.specs.Items.{values_of_visit, extended_of}
-use Rattle.lrc_sequence.specs.Plans.{step_of, bindings_of, sequences_of}
-use Rattle.lrc_sequence.specs.Sequences.{actions_of, segments_of}
+use Rattle.lrc_order_meaning.specs.declared.Need.{Need}
+use Rattle.lrc_order_meaning.specs.declared.Place.{Place}
+use Rattle.lrc_order_meaning.specs.Needs.{symbols_of, places_of}
+use Rattle.lrc_plan_meaning.specs.declared.Step.{Step}
+use Rattle.lrc_plan_meaning.specs.Items.{values_of_visit, extended_of}
+use Rattle.lrc_plan_meaning.specs.Plans.{step_of, bindings_of, sequences_of}
+use Rattle.lrc_plan_meaning.specs.Sequences.{actions_of, segments_of}
 use Rattle.lrc_plan.specs.declared.waiting.Waiting.{Waiting}
 use Rattle.lrc_plan.specs.declared.gaining.Shape.{Shape}
 use Rattle.lrc_plan.specs.Waiting.{waiting_of}

@@ -1,6 +1,6 @@
 use Rattle.std.proofs.Common.{◌≡◌, map, take}
-use Rattle.lrc_order.specs.declared.Place.{Place}
-use Rattle.lrc_sequence.specs.Items.{visits_of}
+use Rattle.lrc_order_meaning.specs.declared.Place.{Place}
+use Rattle.lrc_plan_meaning.specs.Items.{visits_of}
 use Rattle.lrc_plan.proofs.sequences.visits_of_each.Given as goal
 
 abbrev pub invariant-symbols : goal.invariant-symbols

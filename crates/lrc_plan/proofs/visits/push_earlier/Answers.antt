@@ -1,6 +1,6 @@
 use Rattle.std.proofs.Common.{◌≡◌, ◌+◌, ◌-◌, ◌++◌, map, ap, ◌∙◌, arith}
 use Rattle.std.specs.List.{range_with_len}
-use Rattle.lrc_sequence.specs.declared.Bound.TheVariants as b
+use Rattle.lrc_plan_meaning.specs.declared.Bound.TheVariants as b
 use Rattle.lrc_plan.proofs.VisitLemmas.{row_more}
 use Rattle.lrc_plan.proofs.visits.push_earlier.Goals as goal
 

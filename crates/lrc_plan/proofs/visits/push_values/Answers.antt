@@ -1,7 +1,7 @@
 use Rattle.std.proofs.Common.{◌+◌, ◌&&◌, ◌==◌, sym, ◌∙◌, ℕ, Bool}
-use Rattle.lrc_sequence.specs.declared.Bound.{Bound}
-use Rattle.lrc_sequence.specs.declared.Bound.TheVariants as b
-use Rattle.lrc_sequence.specs.Items.{is_of, visit_of}
+use Rattle.lrc_plan_meaning.specs.declared.Bound.{Bound}
+use Rattle.lrc_plan_meaning.specs.declared.Bound.TheVariants as b
+use Rattle.lrc_plan_meaning.specs.Items.{is_of, visit_of}
 use Rattle.lrc_plan.proofs.VisitLemmas.{passed_on, passed_by}
 use Rattle.lrc_plan.proofs.visits.push_values.Goals as goal
 use Rattle.lrc_plan.proofs.visits.push_values.Goals.{then-is_of_visit+in_ok-push, else-is_of_visit}

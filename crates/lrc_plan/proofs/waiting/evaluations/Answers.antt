@@ -1,14 +1,14 @@
 use Rattle.std.proofs.Common.{◌≡◌, ◌<◌, ◌++◌, List, All, length, map, subst, sym, ap, ◌∙◌}
 use Rattle.std.specs.Prelude.{flat_map}
 use Rattle.lrc_meaning.specs.Grammar.{occurrences_of}
-use Rattle.lrc_order.specs.declared.Need.{Need}
-use Rattle.lrc_order.specs.Needs.{equation_needs, tree_needs, places_of, needs_of}
-use Rattle.lrc_sequence.specs.declared.Bound.{Bound}
-use Rattle.lrc_sequence.specs.Items.{ordered_at, firsts_of, extended_of}
+use Rattle.lrc_order_meaning.specs.declared.Need.{Need}
+use Rattle.lrc_order_meaning.specs.Needs.{equation_needs, tree_needs, places_of, needs_of}
+use Rattle.lrc_plan_meaning.specs.declared.Bound.{Bound}
+use Rattle.lrc_plan_meaning.specs.Items.{ordered_at, firsts_of, extended_of}
 use Rattle.lrc_plan.proofs.PairLemmas.{lists_count, lists_are, all_front}
 use Rattle.lrc_plan.proofs.VisitLemmas.{passed}
 use Rattle.std.specs.List.{range_with_len}
-use Rattle.lrc_sequence.specs.Sequences.{is_defined}
+use Rattle.lrc_plan_meaning.specs.Sequences.{is_defined}
 use Rattle.lrc_plan.specs.declared.waiting.Waiting.{Waiting}
 use Rattle.lrc_plan.specs.Waiting.{waiting_evaluation}
 use Rattle.lrc_plan.proofs.WaitingLemmas.{evaluations_wait}

@@ -1,6 +1,6 @@
 use Rattle.std.proofs.Common.{◌++◌, List, map, ap, ◌∙◌, None}
-use Rattle.lrc_order.specs.declared.Place.{Place}
-use Rattle.lrc_sequence.specs.Sequences.{visits_at}
+use Rattle.lrc_order_meaning.specs.declared.Place.{Place}
+use Rattle.lrc_plan_meaning.specs.Sequences.{visits_at}
 use Rattle.lrc_plan.specs.declared.waiting.Waiting.{Waiting}
 use Rattle.lrc_plan.specs.Waiting.{waiting_of}
 use Rattle.lrc_plan.proofs.PairLemmas.{flat_range_more}

@@ -1,7 +1,7 @@
 use Rattle.std.proofs.Common.{◌≡◌, ◌++◌, map}
 use Rattle.std.specs.Prelude.{flat_map}
 use Rattle.std.specs.List.{range_with_len}
-use Rattle.lrc_sequence.specs.Sequences.{visits_at}
+use Rattle.lrc_plan_meaning.specs.Sequences.{visits_at}
 use Rattle.lrc_plan.specs.Waiting.{waiting_of}
 use Rattle.lrc_plan.proofs.waiting.push_all_visits.Given as goal
 

@@ -1,7 +1,7 @@
 use Rattle.std.proofs.Common.{sym, ap, ◌∙◌, ◌++◌, ◌∷◌, [], Vec, Global, arith}
 use Rattle.lrc_plan.specs.declared.waiting.Waiting.{Waiting}
 use Rattle.lrc_plan.specs.Waiting.{waiting_evaluation}
-use Rattle.lrc_sequence.specs.Sequences.{is_defined}
+use Rattle.lrc_plan_meaning.specs.Sequences.{is_defined}
 use Rattle.lrc_plan.proofs.VisitLemmas.{passed_on, passed_by}
 use Rattle.lrc_plan.proofs.WaitingLemmas.{defined_at, evaluation_made}
 use Rattle.lrc_plan.proofs.waiting.push_evaluations.Goals as goal

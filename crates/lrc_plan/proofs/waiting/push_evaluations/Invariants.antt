@@ -1,5 +1,5 @@
 use Rattle.std.proofs.Common.{◌≡◌, ◌++◌}
-use Rattle.lrc_sequence.specs.Sequences.{is_defined}
+use Rattle.lrc_plan_meaning.specs.Sequences.{is_defined}
 use Rattle.lrc_plan.specs.Waiting.{waiting_evaluation}
 use Rattle.lrc_plan.proofs.VisitLemmas.{passed}
 use Rattle.lrc_plan.proofs.waiting.push_evaluations.Given as goal

@@ -1,5 +1,5 @@
 use Rattle.std.proofs.Common.{ap, ◌∙◌}
-use Rattle.lrc_faults.specs.Faults.{means}
+use Rattle.lrc_fault_meaning.specs.Faults.{means}
 use Rattle.lrc_check.specs.Within.{Within}
 use Rattle.lrc_check.proofs.ScopeLemmas.{meaning_is}
 use Rattle.lrc_check.proofs.scope.Scope.means.Goals as goal

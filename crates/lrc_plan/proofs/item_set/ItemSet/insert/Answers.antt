@@ -1,5 +1,5 @@
 use Rattle.std.proofs.Common.{◌≡◌, ◌↔◌, ◌⊎◌, IsTrue, subst, sym, ap}
-use Rattle.lrc_sequence.specs.declared.Bound as sequence
+use Rattle.lrc_plan_meaning.specs.declared.Bound as sequence
 use Rattle.lrc_plan.specs.ItemSets.{Flags, holds, HasRoom}
 use Rattle.lrc_plan.proofs.SetLemmas.{kid_held, kid_room}
 use Rattle.lrc_plan.proofs.item_set.ItemSet.insert.Goals as goal

@@ -1,7 +1,7 @@
 use Rattle.std.proofs.Common.{◌↔◌, ◌⊎◌, IsTrue, Contains, get_or, subst, List, arith}
 use Rattle.std.proofs.lemmas.List.{take_all, get_or_default}
-use Rattle.lrc_sequence.specs.declared.Bound as sequence
-use Rattle.lrc_sequence.specs.declared.Bound.TheVariants as b
+use Rattle.lrc_plan_meaning.specs.declared.Bound as sequence
+use Rattle.lrc_plan_meaning.specs.declared.Bound.TheVariants as b
 use Rattle.lrc_plan.specs.ItemSets.{holds}
 use Rattle.lrc_plan.proofs.SetLemmas.{items_more}
 use Rattle.lrc_plan.proofs.item_set.ItemSet.insert_all.Goals as goal

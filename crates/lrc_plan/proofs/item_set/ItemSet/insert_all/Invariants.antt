@@ -1,5 +1,5 @@
 use Rattle.std.proofs.Common.{◌↔◌, ◌⊎◌, IsTrue, Contains, take}
-use Rattle.lrc_sequence.specs.declared.Bound as sequence
+use Rattle.lrc_plan_meaning.specs.declared.Bound as sequence
 use Rattle.lrc_plan.specs.ItemSets.{holds, HasRoom}
 use Rattle.lrc_plan.proofs.item_set.ItemSet.insert_all.Given as goal
 

@@ -1,7 +1,7 @@
 use Rattle.std.proofs.Common.{◌≡◌, slice_get, ap, ◌∙◌}
-use Rattle.lrc_sequence.specs.declared.Sequences.{Sequences}
-use Rattle.lrc_sequence.specs.Plans.{sequences_of}
-use Rattle.lrc_sequence.specs.Sequences.{segment}
+use Rattle.lrc_plan_meaning.specs.declared.Sequences.{Sequences}
+use Rattle.lrc_plan_meaning.specs.Plans.{sequences_of}
+use Rattle.lrc_plan_meaning.specs.Sequences.{segment}
 use Rattle.lrc_plan.specs.Planned.{IsVisit}
 use Rattle.lrc_plan.proofs.ReadLemmas.{found_at, if_some, in_some, actions_within, actions_read}
 use Rattle.lrc_plan.proofs.sequenced.Plan.actions.Goals as goal

@@ -1,8 +1,8 @@
 use Rattle.std.proofs.Common.{◌≡◌, slice_get, ap, ◌∙◌}
-use Rattle.lrc_sequence.specs.declared.Sequences.{Sequences}
-use Rattle.lrc_sequence.specs.Plans.{sequences_of, bindings_from, bindings_of}
-use Rattle.lrc_sequence.specs.Bindings.{binding}
-use Rattle.lrc_sequence.specs.Items.{visits_of}
+use Rattle.lrc_plan_meaning.specs.declared.Sequences.{Sequences}
+use Rattle.lrc_plan_meaning.specs.Plans.{sequences_of, bindings_from, bindings_of}
+use Rattle.lrc_plan_meaning.specs.Bindings.{binding}
+use Rattle.lrc_plan_meaning.specs.Items.{visits_of}
 use Rattle.lrc_plan.specs.Planned.{IsVisit}
 use Rattle.lrc_plan.proofs.ReadLemmas.{found_at, if_some, in_some, bindings_within, later_read, later_within, binding_read}
 use Rattle.lrc_plan.proofs.sequenced.Plan.binding.Goals as goal

@@ -1,5 +1,5 @@
 use Rattle.std.proofs.Common.{◌∙◌, ap, List, get_or}
-use Rattle.lrc_sequence.specs.declared.Sequences.{Sequences}
+use Rattle.lrc_plan_meaning.specs.declared.Sequences.{Sequences}
 use Rattle.lrc_plan.proofs.ReadLemmas.{production_read}
 use Rattle.lrc_plan.proofs.sequenced.Plan.sequences.Goals as goal
 

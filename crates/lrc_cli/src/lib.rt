@@ -1,0 +1,15 @@
+//! The top call: from the words of a command line and the bytes of a job to the text of its replies, or to
+//! the line of its first fault.
+#![tactic(auto)]
+
+mod job;
+mod order;
+mod run;
+#[cfg(test)]
+mod tests;
+mod text;
+#[cfg(test)]
+mod text_tests;
+mod top;
+
+pub use top::lrc;
