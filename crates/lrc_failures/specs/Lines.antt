@@ -9,8 +9,8 @@ use Rattle.lrc_reader.specs.declared.fault.Limit.TheVariants as limit
 use Rattle.lrc_check.specs.declared.fault.GrammarKind.{GrammarKind}
 use Rattle.lrc_check.specs.declared.fault.GrammarKind.TheVariants as kind
 use Rattle.lrc_check.specs.declared.fault.GrammarFault.{GrammarFault}
-use Rattle.lrc_resolve.specs.declared.fault.TermFault.{TermFault}
-use Rattle.lrc_resolve.specs.declared.fault.TermFault.TheVariants as term
+use Rattle.lrc_job.specs.declared.term_fault.TermFault.{TermFault}
+use Rattle.lrc_job.specs.declared.term_fault.TermFault.TheVariants as term
 use Rattle.lrc_job.specs.declared.fault.AcceptFault.{AcceptFault}
 use Rattle.lrc_job.specs.declared.fault.AcceptFault.TheVariants as accept
 use Rattle.lrc_failures.specs.Pieces.{joined}

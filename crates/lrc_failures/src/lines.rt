@@ -6,11 +6,10 @@ ghost use Rattle.lrc_failures.specs.Lines.{line_of, line_feed, alone, of_job, at
 use crate::failure::{Cycle, Failure};
 use crate::pieces::{Piece, put_pieces};
 use lrc_check::{GrammarFault, GrammarKind};
-use lrc_job::AcceptFault;
+use lrc_job::{AcceptFault, TermFault};
 use lrc_lex::LexFault;
 use lrc_outside::{Failed, Sink};
 use lrc_reader::{JobFault, Limit};
-use lrc_resolve::TermFault;
 
 const USAGE: &[u8] =
     b"usage: lrc run|solo|check|plan|gen [--rows N] [--memo N] [--depth N] [--seed N] [--nodes N] [--sessions N]";

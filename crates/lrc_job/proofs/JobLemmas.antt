@@ -9,8 +9,8 @@ use Rattle.lrc_base.specs.declared.job.Job.{Job}
 use Rattle.lrc_meaning.specs.Tree.{Tree, kind_of}
 use Rattle.lrc_meaning.specs.Grammar.{Grammar}
 use Rattle.lrc_check.specs.declared.fault.GrammarFault.{GrammarFault}
-use Rattle.lrc_resolve.specs.declared.fault.TermFault.{TermFault}
-use Rattle.lrc_resolve.specs.Resolved.{and_then, map_ok, is_of_kind, resolved}
+use Rattle.lrc_job.specs.declared.term_fault.TermFault.{TermFault}
+use Rattle.lrc_job.specs.Resolved.{and_then, map_ok, is_of_kind, resolved}
 use Rattle.lrc_job.specs.declared.fault.AcceptFault.{AcceptFault}
 use Rattle.lrc_job.specs.declared.fault.AcceptFault.TheVariants as fault
 use Rattle.lrc_job.specs.Job.{next, term_at, put_of, change_of, changes_of, of_start, session_of, sessions_of, HasSessions, IsFaultOf}

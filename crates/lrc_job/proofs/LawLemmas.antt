@@ -11,10 +11,10 @@ use Rattle.lrc_meaning.specs.Tree.{Tree, kind_of}
 use Rattle.lrc_meaning.specs.Grammar.{Grammar}
 use Rattle.lrc_meaning.specs.Editing.{Change, put}
 use Rattle.lrc_meaning.proofs.KindLemmas.{own_kind, one_kind}
-use Rattle.lrc_resolve.specs.declared.fault.TermFault.{TermFault}
-use Rattle.lrc_resolve.specs.Resolved.{and_then, map_ok, is_of_kind, resolved}
-use Rattle.lrc_resolve.specs.Laws.{NamesFitting}
-use Rattle.lrc_resolve.proofs.LawLemmas.{found_fits, fitting_is_found}
+use Rattle.lrc_job.specs.declared.term_fault.TermFault.{TermFault}
+use Rattle.lrc_job.specs.Resolved.{and_then, map_ok, is_of_kind, resolved}
+use Rattle.lrc_job.specs.TermLaws.{NamesFitting}
+use Rattle.lrc_job.proofs.TermLawLemmas.{found_fits, fitting_is_found}
 use Rattle.lrc_job.specs.declared.fault.AcceptFault.{AcceptFault}
 use Rattle.lrc_job.specs.declared.fault.AcceptFault.TheVariants as fault
 use Rattle.lrc_job.specs.Job.{Session, next, term_at, put_of, change_of, changes_of, of_start, session_of}

@@ -1,3 +1,5 @@
+pub mod ResolvedLemmas
+pub mod TermLawLemmas
 pub mod JobLemmas
 pub mod LawLemmas
 pub mod ScriptLemmas

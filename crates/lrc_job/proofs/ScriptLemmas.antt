@@ -11,8 +11,8 @@ use Rattle.lrc_meaning.specs.Tree.{Tree, fits, kind_of}
 use Rattle.lrc_meaning.specs.Naming.{each_some, named_tree}
 use Rattle.lrc_meaning.specs.Editing.{Change, put}
 use Rattle.lrc_meaning.specs.Accepted.{put_of_kind, put_of, named_change}
-use Rattle.lrc_resolve.specs.Laws.{NamesFitting}
-use Rattle.lrc_resolve.proofs.LawLemmas.{fitting_is_found}
+use Rattle.lrc_job.specs.TermLaws.{NamesFitting}
+use Rattle.lrc_job.proofs.TermLawLemmas.{fitting_is_found}
 use Rattle.lrc_job.specs.Laws.{IsChangeOf, AreChangesOf, is_put, SessionIsScript, ScriptIsSession}
 
 module _ (prods : List Production) where

@@ -17,8 +17,8 @@ use Rattle.lrc_meaning.specs.Naming.{named_grammar}
 use Rattle.lrc_meaning.specs.Editing.{Change, put, copy, show, forget, change}
 use Rattle.lrc_fault_meaning.specs.Faults.{first_fault}
 use Rattle.lrc_check.specs.Verdict.{answered}
-use Rattle.lrc_resolve.specs.declared.fault.TermFault.{TermFault}
-use Rattle.lrc_resolve.specs.Resolved.{and_then, map_ok, is_of_kind, resolved}
+use Rattle.lrc_job.specs.declared.term_fault.TermFault.{TermFault}
+use Rattle.lrc_job.specs.Resolved.{and_then, map_ok, is_of_kind, resolved}
 use Rattle.lrc_job.specs.declared.fault.AcceptFault.{AcceptFault}
 use Rattle.lrc_job.specs.declared.fault.AcceptFault.TheVariants as fault
 

@@ -11,7 +11,7 @@ use Rattle.lrc_meaning.specs.Tree.{Tree}
 use Rattle.lrc_meaning.specs.Grammar.{Grammar}
 use Rattle.lrc_meaning.specs.Accepted.{IsScriptOf}
 use Rattle.lrc_meaning.specs.Editing.{Change, put, copy, show, forget}
-use Rattle.lrc_resolve.specs.Laws.{NamesFitting}
+use Rattle.lrc_job.specs.TermLaws.{NamesFitting}
 use Rattle.lrc_job.specs.Job.{Session, session_of}
 
 -- the edit asks for this change; the term of a put names a tree that fits a kind

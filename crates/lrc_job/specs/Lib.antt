@@ -1,3 +1,5 @@
+pub mod Resolved
+pub mod TermLaws
 pub mod Fitting
 pub mod Job
 pub mod Laws

@@ -1,6 +1,6 @@
+use crate::term_fault::TermFault;
 use lrc_base::Memory;
 use lrc_check::GrammarFault;
-use lrc_resolve::TermFault;
 
 /// Why a job is not accepted. Sessions are numbered from 1.
 #[derive(Debug, Clone, Copy)]

@@ -1,17 +1,27 @@
-//! Jobs as they are written: accepted, with their grammars, trees and edits by numbers, or their
-//! first fault.
+//! Terms and jobs as they are written: a term is found over a grammar's productions with its kind, a
+//! job is accepted with its grammar, trees and edits by numbers; or the first fault is answered.
 #![tactic(auto)]
 
 mod edits;
 mod fault;
 mod job;
+mod kinds;
 mod laws;
 mod sessions;
+mod term;
+mod term_fault;
+mod term_laws;
 mod terms;
 
 pub use fault::AcceptFault;
 pub use job::{Accepted, accept};
+pub use kinds::kind_of;
 pub use laws::{scripts_exactly_sessions_of_puts, sessions_exactly_where_fitting};
+pub use term::resolve;
+pub use term_fault::TermFault;
+pub use term_laws::found_exactly_where_fitting;
 
+#[cfg(test)]
+mod term_tests;
 #[cfg(test)]
 mod tests;

@@ -1,14 +1,15 @@
 ghost use Rattle.std.specs.Prelude.{◌≡◌, ◌≢◌, Ok, Some, Err, IsTrue, IfOk, MatchResult};
 ghost use Rattle.lrc_meaning.specs.Tree.{tree, kind_of, fits};
 ghost use Rattle.lrc_grammar.specs.Grammar.{grammar_of};
-ghost use Rattle.lrc_resolve.specs.Resolved.{resolved, and_then};
+ghost use Rattle.lrc_job.specs.Resolved.{resolved, and_then};
 ghost use Rattle.lrc_job.specs.declared.fault.AcceptFault.TheVariants as variant;
 ghost use Rattle.lrc_job.specs.Job.{term_at, of_start, Agrees};
 
 use crate::fault::AcceptFault;
+use crate::term::resolve;
+use crate::term_fault::TermFault;
 use lrc_base::{Kind, RawTerm, Term};
 use lrc_grammar::{Grammar, same_kind};
-use lrc_resolve::{TermFault, resolve};
 use std::alloc::Global;
 
 /// The term at this edit of this session, with its kind.

@@ -1,7 +1,7 @@
 use Rattle.std.proofs.Common.{◌≡◌, IsTrue, map, drop}
 use Rattle.std.specs.List.{list_all}
 use Rattle.lrc_meaning.specs.Editing.{change}
-use Rattle.lrc_resolve.proofs.ResolvedLemmas.{then_rest}
+use Rattle.lrc_job.proofs.ResolvedLemmas.{then_rest}
 use Rattle.lrc_job.specs.Fitting.{edit_fits}
 use Rattle.lrc_job.specs.Job.{changes_of}
 use Rattle.lrc_job.proofs.edits.edits_of.Given as goal

@@ -1,7 +1,7 @@
 use Rattle.std.proofs.Common.{◌≡◌, IsTrue, map, drop}
 use Rattle.std.specs.List.{list_all}
 use Rattle.lrc_grammar.specs.Grammar.{grammar_of}
-use Rattle.lrc_resolve.proofs.ResolvedLemmas.{then_rest}
+use Rattle.lrc_job.proofs.ResolvedLemmas.{then_rest}
 use Rattle.lrc_job.specs.Fitting.{script_fits}
 use Rattle.lrc_job.specs.Job.{session, sessions_of}
 use Rattle.lrc_job.proofs.sessions.sessions_of.Given as goal

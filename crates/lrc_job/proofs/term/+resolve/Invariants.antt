@@ -1,8 +1,8 @@
 use Rattle.std.proofs.Common.{◌≡◌, map, drop}
 use Rattle.lrc_meaning.specs.Tree.{tree}
-use Rattle.lrc_resolve.specs.Resolved.{each_ok, resolved}
-use Rattle.lrc_resolve.proofs.ResolvedLemmas.{then_rest}
-use Rattle.lrc_resolve.proofs.term.+resolve.Given as goal
+use Rattle.lrc_job.specs.Resolved.{each_ok, resolved}
+use Rattle.lrc_job.proofs.ResolvedLemmas.{then_rest}
+use Rattle.lrc_job.proofs.term.+resolve.Given as goal
 
 abbrev pub invariant-terms_of-loop-kid : goal.invariant-terms_of-loop-kid
 invariant-terms_of-loop-kid l =

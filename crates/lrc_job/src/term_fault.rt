@@ -15,7 +15,7 @@ pub enum TermFault {
 
 impl From<Memory> for TermFault {
     ghost use Rattle.std.specs.Prelude.{◌≡◌};
-    ghost use Rattle.lrc_resolve.specs.declared.fault.TermFault.TheVariants as variant;
+    ghost use Rattle.lrc_job.specs.declared.term_fault.TermFault.TheVariants as variant;
 
     ghost from_gives = { λ _ fault. fault ≡ variant.Memory };
 

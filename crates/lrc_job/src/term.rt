@@ -3,11 +3,11 @@ ghost use Rattle.lrc_grammar.specs.Limits.{has_few_parts};
 ghost use Rattle.std.specs.List.{list_all};
 ghost use Rattle.lrc_meaning.specs.Tree.{tree};
 ghost use Rattle.lrc_meaning.specs.Naming.{production_number};
-ghost use Rattle.lrc_resolve.specs.Laws.{NamesFitting};
-ghost use Rattle.lrc_resolve.specs.Resolved.{each_ok, node_of, resolved, IsTerm, AreTerms, IsResolved};
+ghost use Rattle.lrc_job.specs.TermLaws.{NamesFitting};
+ghost use Rattle.lrc_job.specs.Resolved.{each_ok, node_of, resolved, IsTerm, AreTerms, IsResolved};
 
-use crate::fault::TermFault;
 use crate::kinds::{first_unlike, kids_of, kind_of};
+use crate::term_fault::TermFault;
 use lrc_base::{Boxed, Kind, List, Memory, NameText, Production, RawTerm, Term};
 use lrc_grammar::Grammar;
 use lrc_naming::production_number;

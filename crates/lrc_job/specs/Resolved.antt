@@ -10,8 +10,8 @@ use Rattle.lrc_base.specs.declared.raw.RawTerm.TheOpen.{RawTerm-F}
 use Rattle.lrc_base.specs.declared.raw.RawTerm.TheFolds.{fold-RawTerm}
 use Rattle.lrc_meaning.specs.Tree.{Tree, int, bool, name, node, row, tree, same_kind, kids_of, kind_of}
 use Rattle.lrc_meaning.specs.Naming.{production_number}
-use Rattle.lrc_resolve.specs.declared.fault.TermFault.{TermFault}
-use Rattle.lrc_resolve.specs.declared.fault.TermFault.TheVariants as fault
+use Rattle.lrc_job.specs.declared.term_fault.TermFault.{TermFault}
+use Rattle.lrc_job.specs.declared.term_fault.TermFault.TheVariants as fault
 
 abbrev pub and_then : {A B E : Type 0} → (A → Result B E) → Result A E → Result B E
 and_then f (Ok a) = f a

@@ -9,8 +9,8 @@ use Rattle.lrc_base.specs.declared.raw.RawTerm.{RawTerm, RawTerm-F, fold-roll-Ra
 use Rattle.lrc_base.specs.declared.raw.RawTerm.TheVariants as t
 use Rattle.lrc_meaning.specs.Tree.{Tree, int, bool, name, kids_of}
 use Rattle.lrc_meaning.specs.Naming.{production_number}
-use Rattle.lrc_resolve.specs.declared.fault.TermFault.{TermFault}
-use Rattle.lrc_resolve.specs.Resolved.{and_then, map_ok, each_ok, node_of, resolved_step, resolved}
+use Rattle.lrc_job.specs.declared.term_fault.TermFault.{TermFault}
+use Rattle.lrc_job.specs.Resolved.{and_then, map_ok, each_ok, node_of, resolved_step, resolved}
 
 module _ (prods : List Production) where
   pub resolved_Int : (i : ℤ) → resolved prods (t.Int i) ≡ Ok (int i)

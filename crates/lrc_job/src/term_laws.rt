@@ -1,4 +1,4 @@
-ghost use Rattle.lrc_resolve.specs.Laws.{FoundFits, FittingIsFound};
+ghost use Rattle.lrc_job.specs.TermLaws.{FoundFits, FittingIsFound};
 
 /// A term is found exactly where it names a tree that fits a kind.
 pub fn found_exactly_where_fitting()

@@ -2,8 +2,8 @@ use Rattle.std.proofs.Common.{◌≡◌, [], length, Option, arith, ap, ◌∙�
 use Rattle.std.specs.Option.{option_map_or}
 use Rattle.lrc_base.specs.declared.grammar.Production.{Production}
 use Rattle.lrc_meaning.specs.Tree.{kids_of}
-use Rattle.lrc_resolve.proofs.ResolvedLemmas.{few_kids}
-use Rattle.lrc_resolve.proofs.kinds.kids_of.Goals as goal
+use Rattle.lrc_job.proofs.ResolvedLemmas.{few_kids}
+use Rattle.lrc_job.proofs.kinds.kids_of.Goals as goal
 
 pub returns-in-Some-clause-few : goal.returns-in-Some-clause-few
 returns-in-Some-clause-few c =

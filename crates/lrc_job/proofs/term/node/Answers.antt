@@ -2,9 +2,9 @@ use Rattle.std.proofs.Common.{◌≡◌, map, length, sym, ap, subst, ◌∙◌,
 use Rattle.std.proofs.lemmas.List.{length-map}
 use Rattle.lrc_meaning.specs.Tree.{tree}
 use Rattle.lrc_meaning.proofs.TreeLemmas.{tree-Node}
-use Rattle.lrc_resolve.specs.Resolved.{first_unlike}
-use Rattle.lrc_resolve.proofs.LawLemmas.{node_right}
-use Rattle.lrc_resolve.proofs.term.node.Goals as goal
+use Rattle.lrc_job.specs.Resolved.{first_unlike}
+use Rattle.lrc_job.proofs.TermLawLemmas.{node_right}
+use Rattle.lrc_job.proofs.term.node.Goals as goal
 
 pub returns-in-None : goal.returns-in-None
 returns-in-None c =

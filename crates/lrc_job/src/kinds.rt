@@ -2,7 +2,7 @@ ghost use Rattle.std.specs.Prelude.{◌≡◌, ◌≤◌, ◌<◌, ◌^◌, leng
 ghost use Rattle.lrc_grammar.specs.Limits.{has_few_parts};
 ghost use Rattle.std.specs.List.{list_all};
 ghost use Rattle.lrc_meaning.specs.Tree.{tree, kids_of, kind_of};
-ghost use Rattle.lrc_resolve.specs.Resolved.{is_of_kind, first_unlike};
+ghost use Rattle.lrc_job.specs.Resolved.{is_of_kind, first_unlike};
 
 use lrc_base::{Kid, Kind, Production, Term};
 use lrc_grammar::same_kind;

@@ -5,7 +5,7 @@ use Rattle.lrc_base.specs.declared.grammar.Production.{Production}
 use Rattle.lrc_base.specs.declared.raw.RawTerm.{RawTerm}
 use Rattle.lrc_meaning.specs.Tree.{Tree, fits, kind_of}
 use Rattle.lrc_meaning.specs.Naming.{named_tree}
-use Rattle.lrc_resolve.specs.Resolved.{resolved}
+use Rattle.lrc_job.specs.Resolved.{resolved}
 
 -- the term names this tree, which fits this kind
 pub record NamesFitting (prods : List Production) (raw : RawTerm) (t : Tree) (kind : Kind) : Type 0 where

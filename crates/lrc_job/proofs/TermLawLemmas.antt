@@ -16,11 +16,11 @@ use Rattle.lrc_meaning.specs.Tree.{Tree, int, bool, name, node, none, more, row,
 use Rattle.lrc_meaning.specs.Naming.{each_some, production_number, named_tree}
 use Rattle.lrc_meaning.proofs.KindLemmas.{own_kind, one_kind}
 use Rattle.lrc_naming.proofs.NamingLemmas.{named_tree-Int, named_tree-Bool, named_tree-Name, named_tree-Node}
-use Rattle.lrc_resolve.specs.declared.fault.TermFault.{TermFault}
-use Rattle.lrc_resolve.specs.declared.fault.TermFault.TheVariants as fault
-use Rattle.lrc_resolve.specs.Resolved.{and_then, map_ok, each_ok, is_of_kind, first_unlike, unless_unlike, node_of, resolved}
-use Rattle.lrc_resolve.specs.Laws.{NamesFitting, FoundFits, FittingIsFound}
-use Rattle.lrc_resolve.proofs.ResolvedLemmas.{resolved_Int, resolved_Bool, resolved_Name, resolved_Node}
+use Rattle.lrc_job.specs.declared.term_fault.TermFault.{TermFault}
+use Rattle.lrc_job.specs.declared.term_fault.TermFault.TheVariants as fault
+use Rattle.lrc_job.specs.Resolved.{and_then, map_ok, each_ok, is_of_kind, first_unlike, unless_unlike, node_of, resolved}
+use Rattle.lrc_job.specs.TermLaws.{NamesFitting, FoundFits, FittingIsFound}
+use Rattle.lrc_job.proofs.ResolvedLemmas.{resolved_Int, resolved_Bool, resolved_Name, resolved_Node}
 
 -- ---- induction, variant by variant
 

@@ -1,7 +1,7 @@
 use Rattle.std.proofs.Common.{◌≡◌, map, drop}
 use Rattle.lrc_meaning.specs.Tree.{tree}
-use Rattle.lrc_resolve.specs.Resolved.{first_unlike}
-use Rattle.lrc_resolve.proofs.kinds.first_unlike.Given as goal
+use Rattle.lrc_job.specs.Resolved.{first_unlike}
+use Rattle.lrc_job.proofs.kinds.first_unlike.Given as goal
 
 abbrev pub invariant-loop-i : goal.invariant-loop-i
 invariant-loop-i l =

@@ -4,10 +4,10 @@ use Rattle.lrc_base.specs.declared.grammar.Production.{Production}
 use Rattle.lrc_meaning.specs.Tree.{tree}
 use Rattle.lrc_grammar.specs.Grammar.{grammar_of}
 use Rattle.lrc_grammar.specs.Limits.{has_few_parts}
-use Rattle.lrc_resolve.specs.Laws.{NamesFitting}
-use Rattle.lrc_resolve.proofs.ResolvedLemmas.{few_productions}
-use Rattle.lrc_resolve.proofs.LawLemmas.{found_fits}
-use Rattle.lrc_resolve.proofs.term.resolve.Goals as goal
+use Rattle.lrc_job.specs.TermLaws.{NamesFitting}
+use Rattle.lrc_job.proofs.ResolvedLemmas.{few_productions}
+use Rattle.lrc_job.proofs.TermLawLemmas.{found_fits}
+use Rattle.lrc_job.proofs.term.resolve.Goals as goal
 
 pub unreachable-requires : goal.unreachable-requires
 unreachable-requires c =

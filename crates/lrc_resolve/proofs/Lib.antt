@@ -1,2 +1,0 @@
-pub mod ResolvedLemmas
-pub mod LawLemmas
