@@ -1,5 +1,5 @@
 -- Stores that grow, step by step.
-use Rattle.std.proofs.Common.{◌≡◌, ◌⊎◌, inl, inr, ℕ, List, [], ◌++◌, refl, sym, ◌∙◌, ap, subst, suc, arith, append_assoc, Option, Some, None, Contains}
+use Rattle.std.proofs.Common.{Bool, true, false, ◌≡◌, ◌⊎◌, inl, inr, ℕ, List, [], ◌++◌, refl, sym, ◌∙◌, ap, subst, suc, arith, append_assoc, Option, Some, None, Contains}
 use Rattle.std.proofs.lemmas.List.{append-nil}
 use Rattle.std.proofs.lemmas.List.Elements.{Contains-append_left, Contains-append_right, Contains-append_cases}
 use Rattle.std.proofs.lemmas.Bool.{false≢true}
@@ -29,10 +29,18 @@ quota-then s t u a b = record {
   pooled = b.pooled ∙ a.pooled;
   at_most = omega (arith, a.at_most, b.at_most);
   fixed = λ e. b.fixed (a.pooled ∙ e) ∙ a.fixed e;
-}
+  till_dry = λ e. b.till_dry e ∙ a.till_dry (wet e);
+  dry = λ e. b.dry (a.dry e);
+  blocks = omega (arith, a.blocks, b.blocks);
+} where
+  wet : u.dry ≡ false → t.dry ≡ false
+  wet e = over t.dry refl where
+    over : (d : Bool) → t.dry ≡ d → t.dry ≡ false
+    over false h = h
+    over true h = absurd (false≢true (sym e ∙ b.dry h))
 
 quota-same : (s : Standing) → KeepsQuota s s
-quota-same s = record { pooled = refl; at_most = omega arith; fixed = λ _. refl }
+quota-same s = record { pooled = refl; at_most = omega arith; fixed = λ _. refl; till_dry = λ _. refl; dry = λ e. e; blocks = omega arith }
 
 -- reading a store and reading it again
 pub reads-then : (s t u : Standing) → Reads s t → Reads t u → Reads s u
@@ -44,6 +52,10 @@ reads-then s t u a b = record {
     drawn = b.stays.drawn ∙ a.stays.drawn;
     pooled = b.stays.pooled ∙ a.stays.pooled;
     quota = b.stays.quota ∙ a.stays.quota;
+    blocks = b.stays.blocks ∙ a.stays.blocks;
+    meets = b.stays.meets ∙ a.stays.meets;
+    lives = b.stays.lives ∙ a.stays.lives;
+    dry = b.stays.dry ∙ a.stays.dry;
     identity = b.stays.identity ∙ a.stays.identity;
   };
   memo = b.memo ∙ a.memo;
@@ -71,6 +83,8 @@ adds-none s c = record {
   made = ([], sym (append-nil s.made), λ part h. absurd (omega (arith, h.1)));
   drawn = inl refl;
   quota = quota-same s;
+  meets = refl;
+  lives = refl;
   memo = refl;
   missed = refl;
   identity = refl;
@@ -88,6 +102,8 @@ adds-then s t u a c w f g = record {
   );
   drawn = draws f.drawn g.drawn;
   quota = quota-then s t u f.quota g.quota;
+  meets = g.meets ∙ f.meets;
+  lives = g.lives ∙ f.lives;
   memo = g.memo ∙ f.memo;
   missed = g.missed ∙ f.missed;
   identity = g.identity ∙ f.identity;

@@ -21,6 +21,8 @@ pub record AddsParts (s t : Standing) (cell : CellTree) : Type 0 where
   pub made : MakesParts s.made t.made cell
   pub drawn : DrawsPart s.drawn t.drawn cell
   pub quota : KeepsQuota s t
+  pub meets : t.meets ≡ s.meets
+  pub lives : t.lives ≡ s.lives
   pub memo : t.memo ≡ s.memo
   pub missed : t.missed ≡ s.missed
   pub identity : t.identity ≡ s.identity

@@ -7,7 +7,7 @@ use Rattle.lrc_table.specs.Passes.{TableView, PassView, IsOf, identity}
 use Rattle.lrc_memo.specs.Shared.{with_own}
 
 pub stays_with : (s t : Standing) (n m : ℕ) (i j : List ℕ) → j ≡ i → Stays s t → Stays (with_own s n i) (with_own t m j)
-stays_with s t n m i j e h = record { known = h.known; seen = h.seen; made = h.made; drawn = h.drawn; pooled = h.pooled; quota = h.quota; identity = e }
+stays_with s t n m i j e h = record { known = h.known; seen = h.seen; made = h.made; drawn = h.drawn; pooled = h.pooled; quota = h.quota; blocks = h.blocks; meets = h.meets; lives = h.lives; dry = h.dry; identity = e }
 
 pub sound_with : (s : Standing) (n : ℕ) (i : List ℕ) → IsSound s → IsSound (with_own s n i)
 sound_with s n i h = record {
@@ -18,6 +18,10 @@ sound_with s n i h = record {
   made_once = h.made_once;
   made_within = h.made_within;
   undrawn = h.undrawn;
+  blockless = h.blockless;
+  undry = h.undry;
+  pays_blocks = h.pays_blocks;
+  uses_blocks = h.uses_blocks;
   seen_known = h.seen_known;
   seen_closed = h.seen_closed;
   seen_without_nil = h.seen_without_nil;

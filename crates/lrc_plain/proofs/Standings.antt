@@ -6,6 +6,7 @@ use Rattle.std.specs.Prelude.{slice_get, unwrap_or}
 use Rattle.lrc_store.specs.Cells.{CellTree, nil, IsWithin}
 use Rattle.lrc_store.specs.Standing.{IsSound, IsMap}
 use Rattle.lrc_store.specs.Words.{Adds, Tells, IsFullFor}
+use Rattle.lrc_store.proofs.Blocks.{no_blocks-paid}
 use Rattle.lrc_store.proofs.Known.{some_meant}
 use Rattle.lrc_plain.specs.Shelf.{Shelf, at, IsNamed, IsShelf}
 use Rattle.lrc_plain.specs.Plain.{pairs, standing}
@@ -46,14 +47,18 @@ seen-known cells handle c e n = over (named-cases cells c (handle, (at-stands ce
 
 -- what a store of one owner stands for is sound
 pub sound : (s : Shelf) (outcomes : List ℕ) (missed : ℕ) → IsShelf s → IsSound (standing s outcomes missed)
-sound s outcomes missed k = record {
+sound s outcomes missed k = let once = no_repeats s.cells (λ i j h l e. let d : suc i ≡ suc j = k.distinct (suc i) (suc j) (omega arith) (omega arith) e in omega arith) in record {
   nil_known = refl;
   finite = λ handle h. omega (arith, known-within s.cells handle h, k.limit, k.within);
   injective = λ one other c e f. let a = at-stands s.cells one c e in let b = at-stands s.cells other c f in k.distinct one other a.0 b.0 (a.1 ∙ sym b.1);
   made_held = λ c h. let n = named-contained s.cells c h in (n.0, stands-at s.cells n.0 c n.1 n.2);
-  made_once = no_repeats s.cells (λ i j h l e. let d : suc i ≡ suc j = k.distinct (suc i) (suc j) (omega arith) (omega arith) e in omega arith);
+  made_once = once;
   made_within = k.within;
   undrawn = λ _. refl;
+  blockless = λ _. refl;
+  undry = λ _. refl;
+  pays_blocks = no_blocks-paid (standing s outcomes missed) once refl refl;
+  uses_blocks = λ _. omega arith;
   seen_known = seen-known s.cells;
   seen_closed = λ c h. parts-held s k c (named-contained s.cells c h);
   seen_without_nil = λ h. let p = at-contained s.cells nil h in let z : suc p.0 ≡ 0 = k.distinct (suc p.0) 0 (omega (arith, p.1)) (omega arith) p.2 in omega arith;
@@ -93,7 +98,9 @@ adds s t c outcomes missed rest known quota grown = record {
   seen = seen-grows s t c grown;
   made = grown;
   drawn = inl refl;
-  quota = record { pooled = refl; at_most = omega (arith, quota); fixed = λ _. quota };
+  quota = record { pooled = refl; at_most = omega (arith, quota); fixed = λ _. quota; till_dry = λ _. quota; dry = λ e. e; blocks = omega arith };
+  meets = refl;
+  lives = refl;
   memo = ap (λ m. Some m) (pairs-grown s t c outcomes rest known grown);
   missed = refl;
   identity = refl;

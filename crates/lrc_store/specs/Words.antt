@@ -1,5 +1,5 @@
 -- What the calls of a store do to what it stands for.
-use Rattle.std.specs.Prelude.{ℕ, ◌≡◌, ◌⊎◌, ◌+◌, ◌≤◌, ◌^◌, ◌-◌, min, false, List, [], ◌∷◌, ◌++◌, length, Option, Some, None, Contains, Result, IfOk, OnErr}
+use Rattle.std.specs.Prelude.{ℕ, ◌≡◌, ◌⊎◌, ◌+◌, ◌≤◌, ◌^◌, ◌-◌, min, true, false, List, [], ◌∷◌, ◌++◌, length, Option, Some, None, Contains, Result, IfOk, OnErr}
 use Rattle.lrc_store.specs.Cells.{CellTree, nil, number, pair, HoldsParts, IsWithin}
 use Rattle.lrc_store.specs.Standing.{Standing, Stands, IsKnown, IsHeld, meant, Told, IsRemembered}
 use Rattle.lrc_store.specs.declared.cells.Cell.{Cell}
@@ -20,11 +20,15 @@ Grows (Some before) None = ⊥
 abbrev pub Keeps : Standing → Standing → Type 0
 Keeps s t = (handle : ℕ) (cell : CellTree) → Stands s handle cell → Stands t handle cell
 
--- the quota never rises, and stays where rows come from no pool
+-- the quota never rises, and stays where rows come from no pool, and as long as the pool is not found drawn out, as it is
+-- for good then; no block is given back
 pub record KeepsQuota (s t : Standing) : Type 0 where
   pub pooled : t.pooled ≡ s.pooled
   pub at_most : t.quota ≤ s.quota
   pub fixed : s.pooled ≡ false → t.quota ≡ s.quota
+  pub till_dry : t.dry ≡ false → t.quota ≡ s.quota
+  pub dry : s.dry ≡ true → t.dry ≡ true
+  pub blocks : s.blocks ≤ t.blocks
 
 -- rows were drawn for no cell or for this one
 abbrev pub Draws : Standing → Standing → CellTree → Type 0
@@ -38,6 +42,10 @@ pub record Stays (s t : Standing) : Type 0 where
   pub drawn : t.drawn ≡ s.drawn
   pub pooled : t.pooled ≡ s.pooled
   pub quota : t.quota ≡ s.quota
+  pub blocks : t.blocks ≡ s.blocks
+  pub meets : t.meets ≡ s.meets
+  pub lives : t.lives ≡ s.lives
+  pub dry : t.dry ≡ s.dry
   pub identity : t.identity ≡ s.identity
 
 -- the store was only read
@@ -53,6 +61,8 @@ pub record Adds (s t : Standing) (cell : CellTree) : Type 0 where
   pub made : (t.made ≡ s.made) ⊎ (t.made ≡ s.made ++ cell ∷ [])
   pub drawn : Draws s t cell
   pub quota : KeepsQuota s t
+  pub meets : t.meets ≡ s.meets
+  pub lives : t.lives ≡ s.lives
   pub memo : t.memo ≡ s.memo
   pub missed : t.missed ≡ s.missed
   pub identity : t.identity ≡ s.identity

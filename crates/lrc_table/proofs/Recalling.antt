@@ -24,7 +24,7 @@ IsOf-memoes p q t entry e m h = (e ∙ h.0, m.follows.layout ∙ h.1)
 -- to callers it is only read
 pub memo_reads : (v w : View) (entry : MemoStep) → IsCurrent v → Memoes v w entry → StoreReads (standing v) (standing w)
 memo_reads v w entry c m = let d = noted-current v entry c in record {
-  stays = record { known = keeps (noting v entry) w d m.follows; seen = seen-grows (noting v entry) w d m.follows; made = m.made; drawn = refl; pooled = refl; quota = m.follows.quota; identity = refl };
+  stays = record { known = keeps (noting v entry) w d m.follows; seen = seen-grows (noting v entry) w d m.follows; made = m.made; drawn = refl; pooled = refl; quota = m.follows.quota; blocks = refl; meets = refl; lives = refl; dry = refl; identity = refl };
   memo = refl;
   missed = refl;
 }

@@ -10,6 +10,7 @@ use Rattle.lrc_store.specs.Standing.{IsSound, IsKnown, HasNoRepeats, meant}
 use Rattle.lrc_store.specs.Words.{Keeps, Puts, Tells, IsFullFor, Reads as StoreReads}
 use Rattle.lrc_store.specs.declared.cells.Handle.{Handle}
 use Rattle.lrc_store.specs.declared.stores.Full.{Full}
+use Rattle.lrc_store.proofs.Blocks.{no_blocks-paid}
 use Rattle.lrc_store.proofs.Known.{some_meant, is_some_from}
 use Rattle.lrc_rule.specs.declared.layout.Content.{Content}
 use Rattle.lrc_rule.specs.declared.layout.Layout.{Layout}
@@ -105,7 +106,9 @@ puts p q cell answer c s a = let f = s.follows in let w = q.view in record {
     seen = seen-grows p.view w c f;
     made = s.made;
     drawn = inl refl;
-    quota = record { pooled = refl; at_most = (let e = f.quota in omega (arith, e)); fixed = λ _. f.quota };
+    quota = record { pooled = refl; at_most = (let e = f.quota in omega (arith, e)); fixed = λ _. f.quota; till_dry = λ _. f.quota; dry = λ e. e; blocks = omega arith };
+    meets = refl;
+    lives = refl;
     memo = refl;
     missed = refl;
     identity = refl;
@@ -128,7 +131,7 @@ puts p q cell answer c s a = let f = s.follows in let w = q.view in record {
 
 pub store_reads : (p q : PassView) → IsCurrent p.view → Reads p q → StoreReads (standing p.view) (standing q.view)
 store_reads p q c r = record {
-  stays = record { known = keeps p.view q.view c r.follows; seen = seen-grows p.view q.view c r.follows; made = r.made; drawn = refl; pooled = refl; quota = r.follows.quota; identity = refl };
+  stays = record { known = keeps p.view q.view c r.follows; seen = seen-grows p.view q.view c r.follows; made = r.made; drawn = refl; pooled = refl; quota = r.follows.quota; blocks = refl; meets = refl; lives = refl; dry = refl; identity = refl };
   memo = refl;
   missed = refl;
 }
@@ -170,6 +173,10 @@ sound v c layout = let l = v.layout in let words = now v in let t = c.table in r
   made_once = made_once l words t v.owned.from v.owned.made c.range.made;
   made_within = c.range.count;
   undrawn = λ _. refl;
+  blockless = λ _. refl;
+  undry = λ _. refl;
+  pays_blocks = no_blocks-paid (standing v) (made_once l words t v.owned.from v.owned.made c.range.made) refl refl;
+  uses_blocks = λ _. omega arith;
   seen_known = λ handle cell h some. seen-from l words t cell handle (known-to l words t cell handle h) some;
   seen_closed = λ cell h. let s = seen-to l words t cell h in seen-parts l words t cell s.0 s.1.0;
   seen_without_nil = λ h. let s = seen-to l words t nil h in s.1.1 refl;
@@ -245,6 +252,10 @@ meets_mine p other q m = record {
     drawn = refl;
     pooled = refl;
     quota = ap (λ (o : Owned). o.quota) m.owned;
+    blocks = refl;
+    meets = refl;
+    lives = refl;
+    dry = refl;
     identity = refl;
   };
   memo = refl;
