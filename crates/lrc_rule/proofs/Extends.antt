@@ -5,7 +5,7 @@ use native.Mathlib.Decide.{ℕ_discrete}
 use Rattle.lrc_store.specs.Cells.{CellTree}
 use Rattle.lrc_rule.specs.declared.layout.Content.{Content}
 use Rattle.lrc_rule.specs.declared.layout.Layout.{Layout}
-use Rattle.lrc_rule.specs.Layout.{bucket_at, part_at, memo_at}
+use Rattle.lrc_rule.specs.Layout.{HasRoom, bucket_at, part_at, memo_at}
 use Rattle.lrc_rule.specs.Rows.{bucket, part, content, Names, IsPublished, depth, Stands, Fits, IsPassed, IsTable, Grows}
 use Rattle.lrc_rule.specs.Memo.{Relation, Reach, memo, IsMemoWord, IsMemo}
 use Rattle.lrc_rule.specs.Home.{place_on}
@@ -14,9 +14,9 @@ use Rattle.lrc_rule.proofs.Places.{same_bucket, same_part, same_memo, bucket_no_
 use Rattle.lrc_rule.proofs.Unique.{Stands-from_row, published-from_named}
 
 -- words in which buckets and published rows are as they were
-kept-table : (l : Layout) (words after : List ℕ) → IsTable l words → length after ≡ length words → ((place : ℕ) → place < l.buckets → bucket l after place ≡ bucket l words place) → Grows l words after → IsTable l after
-kept-table l words after t long same g = record {
-  whole = long ∙ t.whole;
+kept-table : (l : Layout) (words after : List ℕ) → IsTable l words → HasRoom l (length after) → ((place : ℕ) → place < l.buckets → bucket l after place ≡ bucket l words place) → Grows l words after → IsTable l after
+kept-table l words after t room same g = record {
+  whole = room;
   within = λ place less. subst (λ n. n ≤ l.rows) (sym (same place less)) (t.within place less);
   once = λ one other named h k. t.once one other named (h.0, sym (same one h.0) ∙ h.1) (k.0, sym (same other k.0) ∙ k.1);
   standing = λ row h. let s = t.standing row (h.0, (h.1.0, sym (same h.0 h.1.0) ∙ h.1.1)) in (s.0, Stands-grown l words after g s.0 (suc row) s.1);
@@ -52,7 +52,7 @@ module _ (l : Layout) (words : List ℕ) (t : IsTable l words) (row k value : �
   }
 
   pub store-table : IsTable l stored_words
-  store-table = kept-table l words stored_words t (length-set words (part_at l row k) value) store-bucket store-grows
+  store-table = kept-table l words stored_words t (length-set words (part_at l row k) value ∙ t.whole) store-bucket store-grows
 
   pub store-memo : (place : ℕ) → place < l.memo → memo l stored_words place ≡ memo l words place
   store-memo place less = get_or-set_other words (part_at l row k) (memo_at l place) value 0 (λ e. part_no_memo l row k place there small (sym e))
@@ -85,7 +85,7 @@ module _ (l : Layout) (words : List ℕ) (t : IsTable l words) (place value : �
   }
 
   pub memo-table : IsTable l remembered_words
-  memo-table = kept-table l words remembered_words t (length-set words (memo_at l place) value) memo-bucket memo-grows
+  memo-table = kept-table l words remembered_words t (length-set words (memo_at l place) value ∙ t.whole) memo-bucket memo-grows
 
   pub memo-words : (allows : Relation) (reach : Reach) → IsMemo allows reach l words → IsMemoWord allows reach l words value → IsMemo allows reach l remembered_words
   memo-words allows reach m h other less = dite (ℕ_discrete other place)

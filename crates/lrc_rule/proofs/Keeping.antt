@@ -241,7 +241,7 @@ module _ {S : Type 0} (slots id : ℕ) (me : Me S View) where
     publish_own : (cell : CellTree) (steps : ℕ) → IsCurrent v → (d : IsDraftOf v.layout (now v) v.learned.draft cell) → steps < v.layout.buckets → place_on v.layout d.content steps < v.layout.buckets
         → IsPassed v.layout (now v) d.content steps → length v.owned.made < v.owned.quota
         → Allows (Rule allows reach v.layout) slots id me (bucket_at v.layout (place_on v.layout d.content steps)) (λ n. either (eqb n 0) (suc (next v)) n)
-            (exchanged (step slots (bucket_at v.layout (place_on v.layout d.content steps)) 0 (suc (next v)) none) me)
+        (exchanged (step slots (bucket_at v.layout (place_on v.layout d.content steps)) 0 (suc (next v)) none) me)
     publish_own cell steps current d few inside passed room s r _ at _ =
         let i = bucket_at v.layout (place_on v.layout d.content steps) in
         let x : ℕ = get_or s.words i 0 in

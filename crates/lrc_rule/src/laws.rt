@@ -47,7 +47,8 @@ pub fn a_new_table_meets_the_rule<M: Meaning>()
     ensures { (meaning : M) (l : Layout) → Rule (M.allows meaning) (M.reach meaning) l (opening {S = Unit {0}} (replicate (word_count l) 0) [] (opening_view l)) }
 {}
 
-/// A load of any word but a memo word keeps the rule, also where a cell is sought and noted as absent.
+/// A load of a bucket or of a part of a row keeps the rule, also where a cell is sought and noted as
+/// absent.
 pub fn loads_keep_the_rule<M: Meaning>()
     ensures load { (meaning : M) (l : Layout) (slots id : ℕ) (me : Me (Unit {0}) View) (word : ℕ) → me.0.live ≡ true → IsBucketOrPart me.0.layout word → Allows (Rule (M.allows meaning) (M.reach meaning) l) slots id me word (λ n. n) (loaded (step slots word 0 0 none) me) }
     ensures seek { (meaning : M) (l : Layout) (slots id : ℕ) (me : Me (Unit {0}) View) (word : ℕ) (cell : CellTree) (c : Content) (steps : ℕ) → IsCurrent me.0 → word ≡ bucket_at me.0.layout (place_on me.0.layout c steps) → place_on me.0.layout c steps < me.0.layout.buckets → Fits me.0.layout (now me.0) cell c
