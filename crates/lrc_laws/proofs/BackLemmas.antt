@@ -24,7 +24,7 @@ use Rattle.lrc_plan_meaning.specs.Bindings.{gained, binding as items_between}
 use Rattle.lrc_plan_meaning.specs.Sound.{handed_in, IsSound}
 use Rattle.lrc_plan_meaning.proofs.ItemLemmas.{contained, among}
 use Rattle.lrc_visit_meaning.specs.Values.{value, binding, no_data, data_row, data_list, value_in, Call, Result}
-use Rattle.lrc_visit_meaning.specs.Visits.{Held, nothing_held, holding, Given, Walked, walk, are_of_kinds, is_of_kind, tree_at, call_of, given_by, held_at_start, result_of, evaluated, step, visit_of_node, visit_of_tree, one_visit, plain_visit}
+use Rattle.lrc_visit_meaning.specs.Visits.{Held, nothing_held, holding, Given, Walked, walk, is_visited, is_of_kind, tree_at, call_of, given_by, held_at_start, result_of, evaluated, step, visit_of_node, visit_of_tree, one_visit, plain_visit}
 use Rattle.std.proofs.lemmas.List.Folds.{flat_map-map}
 use Rattle.std.proofs.lemmas.Simd.{map-map}
 use Rattle.lrc_order_meaning.proofs.MemberLemmas.{member_first, member_later, member_cases, no_member, member_map, member_flat, member_of_flat, member_range, member_of_range}
@@ -49,7 +49,7 @@ module _ (g : Grammar) (parts : List Partition) where
 
   node_whole : (visit : Call → Option Result) (p : Production) (kids : Trees) (c : Call) (r : Result) → visit_of_node g parts visit p kids c ≡ Some r → IsWhole p.left c.visit r
   node_whole visit p kids c r e =
-      let inside = where_true (are_of_kinds g.prods kids p.kids) _ r e in
+      let inside = where_true (is_visited g parts p kids c) _ r e in
       let found = mapped (result_of g parts p c.visit) _ r inside.1 in
       subst (IsWhole p.left c.visit) found.2
       (record {
@@ -98,7 +98,7 @@ module _ (g : Grammar) (parts : List Partition) where
   pub record Served (visit : Call → Option Result) (f : Face) (p : Production) (n : ℕ) (kids : Trees) (v : ℕ) : Type 0 where
     pub walked : Walked
     pub is_walked : walk (makes g.sorts parts p) (step g parts visit p kids) (segment g.sorts parts p v) (record { height = 0; held = held_at_start g parts p (asked g parts f p.left (node n kids) v) }) ≡ Some walked
-    pub kinds : IsTrue (are_of_kinds g.prods kids p.kids)
+    pub visited : IsTrue (is_visited g parts p kids (asked g parts f p.left (node n kids) v))
     pub answers : Answers g parts f p.left v (result_of g parts p v walked)
 
   pub served_visit : (visit : Call → Option Result) (f : Face) (p : Production) (n : ℕ) (kids : Trees) (v : ℕ) → slice_get g.prods n ≡ Some p
@@ -107,12 +107,12 @@ module _ (g : Grammar) (parts : List Partition) where
       let c = asked g parts f p.left (node n kids) v in
       let e : visit_of_node g parts visit p kids c ≡ Some one.result =
       sym (ap (option_and_then (λ q. visit_of_node g parts visit q kids c)) there) ∙ one.is_result in
-      let inside = where_true (are_of_kinds g.prods kids p.kids) _ one.result e in
+      let inside = where_true (is_visited g parts p kids c) _ one.result e in
       let found = mapped (result_of g parts p v) _ one.result inside.1 in
       record {
         walked = found.0;
         is_walked = found.1;
-        kinds = inside.0;
+        visited = inside.0;
         answers = subst (Answers g parts f p.left v) (sym found.2) one.answers;
       }
 

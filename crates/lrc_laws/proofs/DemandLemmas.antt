@@ -152,7 +152,7 @@ module _ (g : Grammar) (parts : List Partition) (formed : IsTrue (is_well_formed
       pub visit_exact : one_visit g parts visit root ≡ Some (answer g parts (face_of g parts tree) q.left v (visit_height g parts tree v))
       visit_exact =
           ap (option_and_then (λ p. visit_of_node g parts visit p (bare_kids kids) root)) there
-          ∙ ap (λ c. cond c (option_map (result_of g parts q v) (walk (makes g.sorts parts q) (step g parts visit q (bare_kids kids)) seg start)) None) here.kinds
+          ∙ ap (λ c. cond c (option_map (result_of g parts q v) (walk (makes g.sorts parts q) (step g parts visit q (bare_kids kids)) seg start)) None) here.visited
           ∙ ap (option_map (result_of g parts q v)) here.is_walked
           ∙ ap Some
           (ap (λ h. record { height = h; synthesised = (result_of g parts q v here.walked).synthesised; bindings = (result_of g parts q v here.walked).bindings }) high_here
@@ -166,7 +166,7 @@ module _ (g : Grammar) (parts : List Partition) (formed : IsTrue (is_well_formed
       reach_is =
           ap (λ ms. called root ∷ (ms ++ option_map_or (λ r. answered r ∷ []) (one_visit g parts visit root) []))
           (ap (λ o. option_map_or (λ p. node_met g parts visit (reach g parts fuel) p (bare_kids kids) root) o []) there
-          ∙ ap (λ c. cond c (walk_met (makes g.sorts parts q) (step g parts visit q (bare_kids kids)) (action_met g parts (reach g parts fuel) q (bare_kids kids)) seg start) []) here.kinds
+          ∙ ap (λ c. cond c (walk_met (makes g.sorts parts q) (step g parts visit q (bare_kids kids)) (action_met g parts (reach g parts fuel) q (bare_kids kids)) seg start) []) here.visited
           ∙ met_here.0)
           ∙ ap (λ o. called root ∷ (flat_map (action_met g parts (reach g parts fuel) q (bare_kids kids) held) seg ++ option_map_or (λ r. answered r ∷ []) o [])) visit_exact
 

@@ -14,7 +14,7 @@ use Rattle.lrc_plan_meaning.specs.Items.{symbol_at, makes}
 use Rattle.lrc_plan_meaning.specs.Sequences.{segment}
 use Rattle.lrc_visit_meaning.specs.Values.{Call, Result}
 pub use Rattle.lrc_visit_meaning.specs.Visits.{walked_on}
-use Rattle.lrc_visit_meaning.specs.Visits.{Held, Given, Walked, walk, is_of_kind, are_of_kinds, tree_at, call_of, given_by, held_at_start, result_of, evaluated, step, visit_of_node, visit_of_tree, plain_visit}
+use Rattle.lrc_visit_meaning.specs.Visits.{Held, Given, Walked, walk, is_of_kind, is_visited, tree_at, call_of, given_by, held_at_start, result_of, evaluated, step, visit_of_node, visit_of_tree, plain_visit}
 
 -- what an option is made of, where it is there
 pub mapped : {A B : Type 0} (f : A → B) (o : Option A) (y : B) → option_map f o ≡ Some y → (x : A) × (o ≡ Some x) × (f x ≡ y)
@@ -87,7 +87,7 @@ module _ (g : Grammar) (parts : List Partition) where
   node_bounded : (n : ℕ) (visit : Call → Option Result) → ((c : Call) (r : Result) → visit c ≡ Some r → r.height ≤ n)
       → (p : Production) (kids : Trees) (c : Call) (r : Result) → visit_of_node g parts visit p kids c ≡ Some r → r.height ≤ suc n
   node_bounded n visit h p kids c r e =
-      let inside = where_true (are_of_kinds g.prods kids p.kids) _ r e in
+      let inside = where_true (is_visited g parts p kids c) _ r e in
       let found = mapped (result_of g parts p c.visit) _ r inside.1 in
       let low = walk_bounded (makes g.sorts parts p) (step g parts visit p kids) (step g parts visit p kids) n (segment g.sorts parts p c.visit) _ found.0
       (step_bounded n visit h p kids) found.1 (omega arith) in
@@ -96,7 +96,7 @@ module _ (g : Grammar) (parts : List Partition) where
   node_same : (n : ℕ) (one other : Call → Option Result) → ((c : Call) (r : Result) → one c ≡ Some r → r.height ≤ n → other c ≡ Some r)
       → (p : Production) (kids : Trees) (c : Call) (r : Result) → visit_of_node g parts one p kids c ≡ Some r → r.height ≤ suc n → visit_of_node g parts other p kids c ≡ Some r
   node_same n one other h p kids c r e le =
-      let inside = where_true (are_of_kinds g.prods kids p.kids) _ r e in
+      let inside = where_true (is_visited g parts p kids c) _ r e in
       let found = mapped (result_of g parts p c.visit) _ r inside.1 in
       let up : suc found.0.height ≤ suc n = subst (λ (q : Result). q.height ≤ suc n) (sym found.2) le in
       let low : found.0.height ≤ n = omega (arith, up) in
@@ -128,7 +128,7 @@ module _ (g : Grammar) (parts : List Partition) where
   -- a node has a height of one at least
   node_some : (visit : Call → Option Result) (p : Production) (kids : Trees) (c : Call) (r : Result) → visit_of_node g parts visit p kids c ≡ Some r → 1 ≤ r.height
   node_some visit p kids c r e =
-      let inside = where_true (are_of_kinds g.prods kids p.kids) _ r e in
+      let inside = where_true (is_visited g parts p kids c) _ r e in
       let found = mapped (result_of g parts p c.visit) _ r inside.1 in
       subst (λ (q : Result). 1 ≤ q.height) found.2 (omega arith)
 

@@ -1,9 +1,10 @@
 -- What a node shows to the node above it, and that a node on which all is made serves each of its visits.
-use Rattle.std.proofs.Common.{◌≡◌, ℕ, ◌+◌, ◌-◌, ◌<◌, ◌≤◌, Bool, true, false, IsTrue, ◌==◌, ◌&&◌, cond, List, [], ◌∷◌, ◌++◌, map, length, Contains, Option, Some, None, inr, slice_get, refl, sym, ap, ◌∙◌, subst, arith}
+use Rattle.std.proofs.Common.{◌≡◌, ℕ, ◌+◌, ◌-◌, ◌<◌, ◌≤◌, Bool, true, false, IsTrue, ◌==◌, ◌&&◌, nat_le, cond, List, [], ◌∷◌, ◌++◌, map, length, Contains, Option, Some, None, inr, slice_get, refl, sym, ap, ◌∙◌, subst, arith}
 use Rattle.std.specs.Prelude.{flat_map}
 use Rattle.std.specs.Option.{option_map, option_and_then}
 use Rattle.std.specs.List.{range_with_len}
-use Rattle.std.proofs.lemmas.List.{map-append}
+use Rattle.std.proofs.lemmas.Bool.{and_from, eq-eqb, le-leb}
+use Rattle.std.proofs.lemmas.List.{map-append, length-map}
 use Rattle.lrc_base.specs.declared.grammar.Kind.TheVariants as k
 use Rattle.lrc_base.specs.declared.grammar.Production.{Production}
 use Rattle.lrc_meaning.specs.Tree.{Tree, Trees, node}
@@ -12,13 +13,14 @@ use Rattle.lrc_order_meaning.specs.declared.Place.{Place}
 use Rattle.lrc_order_meaning.specs.declared.Partition.{Partition}
 use Rattle.lrc_plan_meaning.specs.declared.Action.{Action}
 use Rattle.lrc_plan_meaning.specs.declared.Action.TheVariants as a
+use Rattle.lrc_plan_meaning.specs.declared.Bound.{Bound}
 use Rattle.lrc_plan_meaning.specs.declared.Bound.TheVariants as b
 use Rattle.lrc_plan_meaning.specs.Items.{visits_of, visit_of, is_of, values_of_visit, attrs_of_visit, symbol_at, makes}
 use Rattle.lrc_plan_meaning.specs.Sequences.{segment}
 use Rattle.lrc_plan_meaning.specs.Bindings.{binding as items_between}
 use Rattle.lrc_plan_meaning.specs.Sound.{handed_in, IsDone, IsSound}
 use Rattle.lrc_visit_meaning.specs.Values.{Datum, value, binding, data_row, data_list, value_in, binding_in, Call, Result}
-use Rattle.lrc_visit_meaning.specs.Visits.{Held, nothing_held, holding, Walked, walk, are_of_kinds, is_of_kind, tree_at, call_of, given_by, held_at_start, result_of, step, visit_of_node, one_visit}
+use Rattle.lrc_visit_meaning.specs.Visits.{Held, nothing_held, holding, Walked, walk, are_of_kinds, are_of_lengths, is_of_kind, is_call, tree_at, call_of, given_by, held_at_start, result_of, step, visit_of_node, one_visit}
 pub use Rattle.lrc_visit_meaning.specs.Shown.{Face, asked}
 use Rattle.std.proofs.lemmas.List.Folds.{flat_map-map}
 use Rattle.std.proofs.lemmas.Simd.{map-map}
@@ -35,6 +37,13 @@ pub record IsProper (m : Held) : Type 0 where
 pub list_of_row : (ds : List Datum) → data_list (data_row ds) ≡ ds
 list_of_row [] = refl
 list_of_row (d ∷ ds) = ap (λ xs. d ∷ xs) (list_of_row ds)
+
+-- bindings of what these items hold are of their lengths
+rows_of_lengths : (m : Held) (items : ℕ → List Bound) (us : List ℕ) → IsTrue (are_of_lengths (map (λ u. data_row (map m (items u))) us) (map (λ u. length (items u)) us))
+rows_of_lengths m items [] = refl
+rows_of_lengths m items (u ∷ us) =
+    and_from (length (data_list (data_row (map m (items u)))) == length (items u)) _
+    (eq-eqb _ (length (items u)) (ap (length {A = Datum}) (list_of_row (map m (items u))) ∙ length-map (items u) m)) (rows_of_lengths m items us)
 
 module _ (g : Grammar) (parts : List Partition) where
   -- what a visit answers
@@ -114,6 +123,16 @@ module _ (g : Grammar) (parts : List Partition) where
             (λ u c. ap data_row (map_agree w.held m (items_between g.sorts parts p v u) (λ x d. hands u x d)));
       }
 
+    -- what the node asks of its own visits are calls
+    own_call : (n v : ℕ) → 1 ≤ v → v ≤ visits_of parts p.left → IsTrue (is_call g parts p (asked g parts (own_face p m) p.left (node n kids) v))
+    unfolding is_call
+    own_call n v first last =
+        let values = attrs_of_visit g.sorts parts true p.left v in
+        let earlier = range_with_len 1 (v - 1) in
+        and_from (nat_le 1 v && nat_le v (visits_of parts p.left)) _ (and_from (nat_le 1 v) (nat_le v (visits_of parts p.left)) (le-leb 1 v first) (le-leb v (visits_of parts p.left) last))
+        (and_from (length (map (own_face p m).attr values) == length values) _ (eq-eqb _ (length values) (length-map values (own_face p m).attr))
+        (rows_of_lengths m (λ u. items_between g.sorts parts p u v) earlier))
+
     -- A node on which all is made serves each of its visits.
     pub node_serves : (n : ℕ) → slice_get g.prods n ≡ Some p → IsSound g.sorts parts p → IsTrue (are_of_kinds g.prods kids p.kids) → AllMade visit p kids m
         → Serves (one_visit g parts visit) (own_face p m) p.left (node n kids)
@@ -127,7 +146,8 @@ module _ (g : Grammar) (parts : List Partition) where
           result = result_of g parts p v walks.walked;
           is_result =
               ap (option_and_then (λ q. visit_of_node g parts visit q kids c)) there
-              ∙ ap (λ k. cond k (option_map (result_of g parts p v) (walk (makes g.sorts parts p) (step g parts visit p kids) seg start)) None) kinds
+              ∙ ap (λ k. cond k (option_map (result_of g parts p v) (walk (makes g.sorts parts p) (step g parts visit p kids) seg start)) None)
+              (and_from (is_call g parts p c) (are_of_kinds g.prods kids p.kids) (own_call n v first last) kinds)
               ∙ ap (option_map (result_of g parts p v)) walks.is_walked;
           answers = end_answers n v walks.walked
               (agree_part (values_of_visit g.sorts parts false p.left 0 v) (handed_in g.sorts parts p v ++ flat_map (makes g.sorts parts p) seg) walks.walked.held m (sound.gives v first last) walks.agrees)

@@ -13,7 +13,7 @@ use Rattle.lrc_plan_meaning.specs.declared.Bound.{Bound}
 use Rattle.lrc_plan_meaning.specs.Items.{symbol_at, makes}
 use Rattle.lrc_plan_meaning.specs.Sequences.{segment}
 use Rattle.lrc_visit_meaning.specs.Values.{Call, Result}
-use Rattle.lrc_visit_meaning.specs.Visits.{Held, Given, Walked, walked_on, walk, is_of_kind, are_of_kinds, tree_at, call_of, given_by, held_at_start, result_of, step, visit_of_node, visit_of_tree, one_visit, plain_visit}
+use Rattle.lrc_visit_meaning.specs.Visits.{Held, Given, Walked, walked_on, walk, is_of_kind, is_visited, tree_at, call_of, given_by, held_at_start, result_of, step, visit_of_node, visit_of_tree, one_visit, plain_visit}
 use Rattle.lrc_visit_meaning.specs.Demand.{Met, called, answered, walk_met, action_met, node_met, tree_met, reach}
 use Rattle.lrc_laws.proofs.FuelLemmas.{mapped, bound_by, where_true, max_right, walk_rises, visit_some, visit_same, step_same}
 
@@ -49,10 +49,10 @@ module _ (g : Grammar) (parts : List Partition) where
     node_met_same : (p : Production) (kids : Trees) (c : Call) (r : Result) → visit_of_node g parts one p kids c ≡ Some r → r.height ≤ suc n
         → node_met g parts one met p kids c ≡ node_met g parts other also p kids c
     node_met_same p kids c r e le =
-        let inside = where_true (are_of_kinds g.prods kids p.kids) _ r e in
+        let inside = where_true (is_visited g parts p kids c) _ r e in
         let found = mapped (result_of g parts p c.visit) _ r inside.1 in
         let up : suc found.0.height ≤ suc n = subst (λ (q : Result). q.height ≤ suc n) (sym found.2) le in
-        ap (λ ms. cond (are_of_kinds g.prods kids p.kids) ms [])
+        ap (λ ms. cond (is_visited g parts p kids c) ms [])
         (walk_met_same (makes g.sorts parts p) (step g parts one p kids) (step g parts other p kids) (action_met g parts met p kids) (action_met g parts also p kids) n
         (step_same g parts n one other same p kids) (action_same p kids) (segment g.sorts parts p c.visit) (record { height = 0; held = held_at_start g parts p c }) found.0 found.1 (omega (arith, up)))
 

@@ -2,9 +2,8 @@
 use Rattle.std.proofs.lemmas.List.Elements.{Contains-get_or}
 use Rattle.std.specs.Prelude.{slice_index_or}
 use Rattle.lrc_meaning.specs.Grammar.{Grammar}
-use Rattle.lrc_order_meaning.specs.Ordered.{Partitions}
+use Rattle.lrc_order_meaning.specs.Ordered.{Partitions, HasOrder}
 use Rattle.lrc_plan.proofs.SoundLemmas.{ordered_is_sound}
-use Rattle.lrc_laws.specs.Laws.{HasOrder}
 use Rattle.lrc_laws.proofs.RootLemmas.{HasSoundPlan}
 
 pub sound_plan : (g : Grammar) (found : Partitions) → HasOrder g found → HasSoundPlan g found
@@ -12,5 +11,5 @@ sound_plan g found order = record {
   formed = order.formed;
   given = order.given;
   partitions = order.partitions;
-  sound = λ i d less. ordered_is_sound g order.formed found order.partitions order.given order.ordered (slice_index_or g.prods i d) (Contains-get_or g.prods i d less);
+  sound = λ i d less. ordered_is_sound g found order (slice_index_or g.prods i d) (Contains-get_or g.prods i d less);
 }

@@ -28,11 +28,11 @@ use Rattle.lrc_plan_meaning.specs.declared.Bound.TheVariants as b
 use Rattle.lrc_plan_meaning.specs.Items.{visits_of, symbol_at}
 use Rattle.lrc_plan_meaning.specs.Sequences.{is_defined}
 use Rattle.lrc_visit_meaning.specs.Values.{value_in, no_tree}
-use Rattle.lrc_visit_meaning.specs.Visits.{Held, is_of_kind, are_of_kinds, leaf_in, symbol_trees, values_in, equation_of, evaluated, tree_at, one_visit, plain_visit}
+use Rattle.lrc_visit_meaning.specs.Visits.{Held, is_of_kind, are_of_kinds, is_call, leaf_in, symbol_trees, values_in, equation_of, evaluated, tree_at, one_visit, plain_visit}
 use Rattle.lrc_order_meaning.proofs.MemberLemmas.{member_of_range}
 use Rattle.lrc_plan.proofs.ListLemmas.{map_agree}
 use Rattle.lrc_laws.proofs.ReadLemmas.{value_same}
-use Rattle.lrc_laws.proofs.NodeLemmas.{Face, Serves, ServesOne, symbol_face}
+use Rattle.lrc_laws.proofs.NodeLemmas.{Face, asked, Serves, ServesOne, symbol_face}
 use Rattle.lrc_laws.proofs.PartLemmas.{node_of_kind, leaf_same}
 use Rattle.lrc_laws.proofs.FormedLemmas.{production_right, one_equation, find_one, target_defined, defined_over}
 use Rattle.lrc_laws.proofs.DecoratedLemmas.{AreSound, sort_same}
@@ -272,7 +272,8 @@ module _ (g : Grammar) (parts : List Partition) (formed : IsTrue (is_well_formed
         let held = node_holds g parts visit whole p n kids there plan f serves in
         let made = node_all_made g parts visit whole p n kids there plan f serves in
         let first : 1 ≤ visits_of parts p.left = some p.left known in
-        let kinds = (served_visit g parts visit f p n kids 1 there (serves 1 (omega arith) first)).kinds in
+        let called = (served_visit g parts visit f p n kids 1 there (serves 1 (omega arith) first)).visited in
+        let kinds = (and_parts (is_call g parts p (asked g parts f p.left (node n kids) 1)) (are_of_kinds g.prods kids p.kids) called).1 in
         tree_built fuel n p there kids kinds held
         (λ o defined. made_evaluated g parts visit whole p kids held o (made (a.Eval o) ((plan.complete.evaluates o).0 defined)))
         (λ s less.

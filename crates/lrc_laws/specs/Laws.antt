@@ -2,10 +2,10 @@
 use Rattle.std.specs.Prelude.{◌≡◌, ℕ, ◌≤◌, ◌<◌, IsTrue, List, Some, None, All, Contains, ◌↔◌}
 use Rattle.lrc_base.specs.declared.grammar.Kind.TheVariants as k
 use Rattle.lrc_meaning.specs.Tree.{Tree, fits}
-use Rattle.lrc_meaning.specs.Grammar.{Grammar, is_well_formed}
+use Rattle.lrc_meaning.specs.Grammar.{Grammar}
 use Rattle.lrc_meaning.specs.Attribution.{Decorated, IsAttribution, height, Attributes}
 use Rattle.lrc_order_meaning.specs.declared.Partition.{Partition}
-use Rattle.lrc_order_meaning.specs.Ordered.{IsGivenThere, IsOrdered, Partitions, ArePartitions}
+use Rattle.lrc_order_meaning.specs.Ordered.{Partitions, HasOrder}
 use Rattle.lrc_plan_meaning.specs.Sound.{IsSound}
 use Rattle.lrc_visit_meaning.specs.Values.{Call, Result, root_call}
 use Rattle.lrc_visit_meaning.specs.Visits.{plain_visit}
@@ -25,13 +25,6 @@ LessFuelGivesNone = (g : Grammar) (parts : List Partition) (fuel other : ℕ) (c
 abbrev pub MoreFuelMeetsTheSame : Type 0
 MoreFuelMeetsTheSame = (g : Grammar) (parts : List Partition) (fuel other : ℕ) (c : Call) (r : Result) → plain_visit g parts fuel c ≡ Some r
     → r.height ≤ other → reach g parts fuel c ≡ reach g parts other c
-
--- A well-formed grammar that is ordered with the pairs that were given, and its partitions.
-pub record HasOrder (g : Grammar) (found : Partitions) : Type 0 where
-  pub formed : IsTrue (is_well_formed g)
-  pub given : All (IsGivenThere g.sorts) found.given
-  pub partitions : ArePartitions g found
-  pub ordered : IsOrdered g found.given
 
 -- the visit sequences of an ordered grammar are sound: each visit finds what it needs, gives its attributes, every action
 -- is made, and nothing becomes available twice

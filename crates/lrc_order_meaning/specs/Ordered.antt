@@ -1,9 +1,9 @@
 -- When a grammar is ordered with given pairs, where it is not, and its partitions.
-use Rattle.std.specs.Prelude.{◌≡◌, ℕ, ◌<◌, List, length, Some, slice_get, slice_index, take, All}
+use Rattle.std.specs.Prelude.{◌≡◌, ℕ, ◌<◌, IsTrue, List, length, Some, slice_get, slice_index, take, All}
 use Rattle.lrc_base.specs.declared.grammar.Sort.{Sort}
 use Rattle.lrc_base.specs.declared.grammar.Production.{Production}
 use Rattle.lrc_base.specs.declared.grammar.Given.{Given}
-use Rattle.lrc_meaning.specs.Grammar.{Grammar, attrs_of_sort, occurrences_of}
+use Rattle.lrc_meaning.specs.Grammar.{Grammar, attrs_of_sort, occurrences_of, is_well_formed}
 use Rattle.lrc_graph.specs.Pairs.{IsLeast, HasExactly}
 use Rattle.lrc_order_meaning.specs.declared.Partition.{Partition}
 use Rattle.lrc_order_meaning.specs.Induced.{Leads}
@@ -64,3 +64,10 @@ pub record Partitions : Type 0 where
 pub record ArePartitions (g : Grammar) (found : Partitions) : Type 0 where
   pub sorts : length found.sorts ≡ length g.sorts
   pub each : (s : ℕ) (partition : Partition) → slice_get found.sorts s ≡ Some partition → IsPartition g found.given s partition
+
+-- The grammar is well formed, and ordered with the pairs that its partitions keep.
+pub record HasOrder (g : Grammar) (found : Partitions) : Type 0 where
+  pub formed : IsTrue (is_well_formed g)
+  pub given : All (IsGivenThere g.sorts) found.given
+  pub partitions : ArePartitions g found
+  pub ordered : IsOrdered g found.given

@@ -3,6 +3,7 @@ use Rattle.std.proofs.Common.{◌≡◌, ℕ, zero, suc, ◌+◌, ◌-◌, ◌<�
 use Rattle.std.specs.Prelude.{filter, flat_map, AllPairs}
 use Rattle.std.specs.Option.{option_map, option_map_or}
 use Rattle.std.specs.List.{range_with_len}
+use Rattle.std.proofs.lemmas.Bool.{cases_order}
 use Rattle.std.proofs.lemmas.Option.{none-some, same_Some}
 use Rattle.std.proofs.lemmas.List.{get_or_default}
 use Rattle.std.proofs.lemmas.List.Elements.{Contains-append_left, Contains-append_right, Contains-append_cases}
@@ -240,3 +241,17 @@ module _ (sorts : List Sort) (parts : List Partition) (p : Production) where
 
   pub segment_actions : (v : ℕ) (x : Action) → Contains (segment sorts parts p v) x → Contains (actions_of sorts parts p) x
   segment_actions v x c = all_once.1 x (at_list (segments_of sorts parts p) (v - 1) x c)
+
+  -- Each action of a greedy plan is made once.
+  pub plan_once : AllPairs (λ x y. ¬ (x ≡ y)) (flat_map (segment sorts parts p) (range_with_len 1 (visits_of parts p.left)))
+  plan_once =
+      let visits = range_with_len 1 (visits_of parts p.left) in
+      pairs_of_distinct (flat_map (segment sorts parts p) visits)
+      (distinct_flat (segment sorts parts p) visits (distinct_range 1 (visits_of parts p.left)) (λ v c. segment_once v)
+      (λ u v c d differ x e f.
+      let bu = member_of_range 1 (visits_of parts p.left) u c in
+      let bv = member_of_range 1 (visits_of parts p.left) v d in
+      elim (cases_order u v) [
+        | inl same ↦ differ same
+        | inr other ↦ elim other [ inl below ↦ segments_apart u v bu.0 below x e f | inr above ↦ segments_apart v u bv.0 above x f e ]
+      ]))

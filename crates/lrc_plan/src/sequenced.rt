@@ -1,6 +1,6 @@
 ghost use Rattle.std.specs.Prelude.{◌≡◌, ◌<◌, length, map, slice_get, IfOk, IfSome};
 ghost use Rattle.lrc_grammar.specs.Grammar.{grammar_of};
-ghost use Rattle.lrc_order_meaning.specs.Ordered.{ArePartitions};
+ghost use Rattle.lrc_order_meaning.specs.Ordered.{HasOrder};
 ghost use Rattle.lrc_plan_meaning.specs.Bindings.{binding};
 ghost use Rattle.lrc_plan_meaning.specs.Plans.{sequences_of};
 ghost use Rattle.lrc_plan_meaning.specs.Sequences.{segment};
@@ -14,22 +14,22 @@ use lrc_ordered::Partitions;
 use lrc_plan_meaning::{Action, Bound, Sequences};
 use std::alloc::Global;
 
-/// Visit sequences and bindings of each production of a grammar. It owns the grammar and its
-/// partitions.
+/// Visit sequences and bindings of each production of a grammar, which is ordered with the pairs that its
+/// partitions keep. It owns the grammar and its partitions.
 #[derive(Debug, Drop)]
 pub struct Plan {
     pub grammar: Grammar,
     pub parts: Partitions,
     /// By production.
     pub productions: List<Sequences>,
-    pub ghost partitions: { ∥ ArePartitions (grammar_of grammar) parts ∥₁ },
+    pub ghost ordered: { ∥ HasOrder (grammar_of grammar) parts ∥₁ },
     pub ghost made: { productions ≡ map (sequences_of grammar.sorts parts.sorts) grammar.prods },
 }
 
 impl Plan {
-    /// The plan of a grammar with these partitions.
+    /// The plan of an ordered grammar with these partitions.
     pub(crate) fn new(alloc: Global, grammar: Grammar, parts: Partitions) -> Result<Plan, Memory>
-        requires { ArePartitions (grammar_of grammar) parts }
+        requires { HasOrder (grammar_of grammar) parts }
         ensures grammar { IfOk result (λ plan. plan.grammar ≡ grammar) }
         ensures parts { IfOk result (λ plan. plan.parts ≡ parts) }
     {
@@ -51,7 +51,7 @@ impl Plan {
     /// Its partitions, with the pairs that were given.
     pub fn parts(&self) -> &Partitions
         ensures value { result.now ≡ self.now.parts }
-        ensures partitions { ∥ ArePartitions (grammar_of self.now.grammar) result.now ∥₁ }
+        ensures ordered { ∥ HasOrder (grammar_of self.now.grammar) result.now ∥₁ }
     {
         &self.parts
     }

@@ -53,9 +53,10 @@ module _ (sorts : List Sort) (parts : List Partition) (p : Production) where
     pub evaluates : (o : ℕ) → IsTrue (is_defined (occurrences_of sorts p) o) ↔ IsDone (a.Eval o)
     pub visits : (s v : ℕ) → IsVisitThere s v ↔ IsDone (a.Visit s v)
 
-  -- Besides, no item becomes available twice, in one visit or in two.
+  -- Besides, each evaluation and each visit is made once, and no item becomes available twice, in one visit or in two.
   pub record IsSound : Type 0 where
     pub runs : IsReady
     pub gives : GivesAll
     pub complete : IsComplete
+    pub once : AllPairs (λ x y. ¬ (x ≡ y)) (flat_map (segment sorts parts p) (range_with_len 1 (visits_of parts p.left)))
     pub fresh : AllPairs (λ x y. ¬ (x ≡ y)) (flat_map (λ v. gained sorts parts p v (segment sorts parts p v)) (range_with_len 1 (visits_of parts p.left)))

@@ -1,9 +1,10 @@
 -- The visits of two declarations, one after another.
-use Rattle.std.proofs.Common.{◌≡◌, ℕ, suc, ◌+◌, ◌-◌, true, cond, List, [], ◌∷◌, ◌++◌, map, get_or, pos, Option, Some, None, slice_get, codes, false, refl, sym, ap, ◌∙◌}
+use Rattle.std.proofs.Common.{◌≡◌, ℕ, suc, ◌+◌, ◌-◌, Bool, true, ◌&&◌, ◌==◌, nat_le, cond, List, [], ◌∷◌, ◌++◌, map, length, get_or, pos, Option, Some, None, slice_get, codes, false, refl, sym, ap, ◌∙◌}
 use Rattle.std.specs.Prelude.{flat_map}
 use Rattle.std.specs.Option.{option_map, option_and_then}
 use Rattle.std.specs.List.{range_with_len}
 use Rattle.std.specs.Int.{int_wrap}
+use Rattle.std.proofs.lemmas.Bool.{and_from}
 use Rattle.std.proofs.lemmas.Simd.{map-map}
 use Rattle.lrc_base.specs.declared.grammar.Production.{Production}
 use Rattle.lrc_base.specs.declared.expr.Expr.TheVariants as e
@@ -17,14 +18,14 @@ use Rattle.lrc_plan_meaning.specs.declared.Action.{Action}
 use Rattle.lrc_plan_meaning.specs.declared.Action.TheVariants as a
 use Rattle.lrc_plan_meaning.specs.declared.Bound.{Bound}
 use Rattle.lrc_plan_meaning.specs.declared.Bound.TheVariants as b
-use Rattle.lrc_plan_meaning.specs.Items.{visits_of, values_of_visit, makes}
+use Rattle.lrc_plan_meaning.specs.Items.{visits_of, attrs_of_visit, values_of_visit, makes}
 use Rattle.lrc_plan_meaning.specs.Sequences.{segments_of, segment}
 use Rattle.lrc_plan_meaning.specs.Bindings.{binding as items_between}
 use Rattle.lrc_plan_meaning.specs.Sound.{handed_in}
 use Rattle.lrc_plan_meaning.specs.Examples.{partitions, top, declaration, handed}
 use Rattle.lrc_plan_meaning.proofs.DeclarationLemmas.{top_is, declaration_is, declaration_hands}
 use Rattle.lrc_visit_meaning.specs.Values.{value, no_data, data_row, data_list, Call, Result, root_call}
-use Rattle.lrc_visit_meaning.specs.Visits.{nothing_held, holding, Walked, walk, are_of_kinds, values_at, held_at_start, result_of, step, visit_of_node, visit_of_tree, plain_visit}
+use Rattle.lrc_visit_meaning.specs.Visits.{nothing_held, holding, Walked, walk, are_of_kinds, are_of_lengths, is_call, values_at, held_at_start, result_of, step, visit_of_node, visit_of_tree, plain_visit}
 use Rattle.lrc_visit_meaning.specs.Examples.{number_result, no_items, second_item, both_items, first_call, second_call, first_result, declaration_binding}
 
 module _ (g : Grammar) (parts : List Partition) where
@@ -36,15 +37,23 @@ module _ (g : Grammar) (parts : List Partition) where
     bindings = map (λ xs. data_row (map w.held xs)) later;
   }
 
+  -- whether it is a call, by how many items the bindings of its visit have
+  pub call_by : (p : Production) (c : Call) (lengths : List ℕ) (b : Bool) → map (λ u. length (items_between g.sorts parts p u c.visit)) (range_with_len 1 (c.visit - 1)) ≡ lengths
+      → (nat_le 1 c.visit && nat_le c.visit (visits_of parts p.left)) && ((length c.inherited == length (attrs_of_visit g.sorts parts true p.left c.visit)) && are_of_lengths c.bindings lengths) ≡ b
+      → is_call g parts p c ≡ b
+  unfolding is_call
+  call_by p c lengths b are h =
+      ap (λ ns. (nat_le 1 c.visit && nat_le c.visit (visits_of parts p.left)) && ((length c.inherited == length (attrs_of_visit g.sorts parts true p.left c.visit)) && are_of_lengths c.bindings ns)) are ∙ h
+
   -- a visit by what is known of its segment and its bindings
   node_visit : (visit : Call → Option Result) (n : ℕ) (p : Production) (kids : Trees) (c : Call) (seg : List Action) (items : List Bound) (later : List (List Bound)) → slice_get g.prods n ≡ Some p
-      → are_of_kinds g.prods kids p.kids ≡ true → segment g.sorts parts p c.visit ≡ seg → handed_in g.sorts parts p c.visit ≡ items
+      → is_call g parts p c ≡ true → are_of_kinds g.prods kids p.kids ≡ true → segment g.sorts parts p c.visit ≡ seg → handed_in g.sorts parts p c.visit ≡ items
       → map (items_between g.sorts parts p c.visit) (range_with_len (c.visit + 1) (visits_of parts p.left - c.visit)) ≡ later
       → visit_of_tree g parts visit (node n kids) c
       ≡ option_map (ended p c.visit later) (walk (makes g.sorts parts p) (step g parts visit p kids) seg (record { height = 0; held = holding items (map value c.inherited ++ flat_map data_list c.bindings) nothing_held }))
-  node_visit visit n p kids c seg items later there kinds seg_is items_are later_are =
+  node_visit visit n p kids c seg items later there called kinds seg_is items_are later_are =
       ap (option_and_then (λ q. visit_of_node g parts visit q kids c)) there
-      ∙ ap (λ k. cond k (option_map (result_of g parts p c.visit) (walk (makes g.sorts parts p) (step g parts visit p kids) (segment g.sorts parts p c.visit) (record { height = 0; held = held_at_start g parts p c }))) None) kinds
+      ∙ ap (λ k. cond k (option_map (result_of g parts p c.visit) (walk (makes g.sorts parts p) (step g parts visit p kids) (segment g.sorts parts p c.visit) (record { height = 0; held = held_at_start g parts p c }))) None) (and_from (is_call g parts p c) (are_of_kinds g.prods kids p.kids) called kinds)
       ∙ ap (λ s. option_map (result_of g parts p c.visit) (walk (makes g.sorts parts p) (step g parts visit p kids) s (record { height = 0; held = held_at_start g parts p c }))) seg_is
       ∙ ap (λ xs. option_map (result_of g parts p c.visit) (walk (makes g.sorts parts p) (step g parts visit p kids) seg (record { height = 0; held = holding xs (map value c.inherited ++ flat_map data_list c.bindings) nothing_held }))) items_are
       ∙ over (walk (makes g.sorts parts p) (step g parts visit p kids) seg (record { height = 0; held = holding items (map value c.inherited ++ flat_map data_list c.bindings) nothing_held }))
@@ -71,13 +80,14 @@ module _ (visit : Call → Option Result) where
   empty_first : visit_of_tree declarations partitions visit no_items (first_call no_items) ≡ Some (first_result 1 0 no_data)
   unfolding paired int_wrap
   empty_first =
-      node_visit declarations partitions visit 1 empty none (first_call no_items) (a.Eval 0 ∷ []) [] ([] ∷ []) refl refl (ap (λ s. get_or s 0 []) empty_is) refl (ap (λ xs. xs ∷ []) empty_hands)
+      node_visit declarations partitions visit 1 empty none (first_call no_items) (a.Eval 0 ∷ []) [] ([] ∷ []) refl (call_by declarations partitions empty (first_call no_items) [] true refl refl) refl (ap (λ s. get_or s 0 []) empty_is) refl (ap (λ xs. xs ∷ []) empty_hands)
       ∙ simp expression_equations refl
 
   empty_second : visit_of_tree declarations partitions visit no_items (second_call no_items no_data) ≡ Some (number_result 1 0)
   unfolding paired int_wrap
   empty_second =
-      node_visit declarations partitions visit 1 empty none (second_call no_items no_data) (a.Eval 2 ∷ []) (b.Value 1 ∷ []) [] refl refl (ap (λ s. get_or s 1 []) empty_is)
+      node_visit declarations partitions visit 1 empty none (second_call no_items no_data) (a.Eval 2 ∷ []) (b.Value 1 ∷ []) [] refl
+      (call_by declarations partitions empty (second_call no_items no_data) (0 ∷ []) true (ap (λ xs. length xs ∷ []) empty_hands) refl) refl (ap (λ s. get_or s 1 []) empty_is)
       (ap (λ xs. b.Value 1 ∷ (xs ++ [])) empty_hands) refl
       ∙ simp expression_equations refl
 
@@ -89,7 +99,8 @@ module _ (visit : Call → Option Result) where
       → visit_of_tree declarations partitions visit second_item (first_call second_item) ≡ Some (first_result 2 20 (declaration_binding 20 no_data))
   unfolding paired int_wrap
   second_first rest =
-      node_visit declarations partitions visit 2 declaration (more (int (pos 2)) (more no_items none)) (first_call second_item) (a.Eval 6 ∷ a.Visit 0 1 ∷ a.Eval 0 ∷ []) [] (handed ∷ []) refl refl
+      node_visit declarations partitions visit 2 declaration (more (int (pos 2)) (more no_items none)) (first_call second_item) (a.Eval 6 ∷ a.Visit 0 1 ∷ a.Eval 0 ∷ []) [] (handed ∷ []) refl
+      (call_by declarations partitions declaration (first_call second_item) [] true refl refl) refl
       (ap (λ s. get_or s 0 []) declaration_is) refl (ap (λ xs. xs ∷ []) declaration_hands)
       ∙ simp expression_equations (rw rest refl)
 
@@ -97,7 +108,8 @@ module _ (visit : Call → Option Result) where
       → visit_of_tree declarations partitions visit second_item (second_call second_item (declaration_binding 20 no_data)) ≡ Some (number_result 2 1)
   unfolding paired int_wrap
   second_second rest =
-      node_visit declarations partitions visit 2 declaration (more (int (pos 2)) (more no_items none)) (second_call second_item (declaration_binding 20 no_data)) (a.Eval 4 ∷ a.Visit 0 2 ∷ a.Eval 2 ∷ []) (b.Value 1 ∷ handed) [] refl refl
+      node_visit declarations partitions visit 2 declaration (more (int (pos 2)) (more no_items none)) (second_call second_item (declaration_binding 20 no_data)) (a.Eval 4 ∷ a.Visit 0 2 ∷ a.Eval 2 ∷ []) (b.Value 1 ∷ handed) [] refl
+      (call_by declarations partitions declaration (second_call second_item (declaration_binding 20 no_data)) (2 ∷ []) true (ap (λ xs. length xs ∷ []) declaration_hands) refl) refl
       (ap (λ s. get_or s 1 []) declaration_is) (ap (λ xs. b.Value 1 ∷ (xs ++ [])) declaration_hands) refl
       ∙ simp expression_equations (rw rest refl)
 
@@ -105,7 +117,8 @@ module _ (visit : Call → Option Result) where
       → visit_of_tree declarations partitions visit both_items (first_call both_items) ≡ Some (first_result 3 30 (declaration_binding 10 (declaration_binding 20 no_data)))
   unfolding paired int_wrap
   both_first rest =
-      node_visit declarations partitions visit 2 declaration (more (int (pos 1)) (more second_item none)) (first_call both_items) (a.Eval 6 ∷ a.Visit 0 1 ∷ a.Eval 0 ∷ []) [] (handed ∷ []) refl refl
+      node_visit declarations partitions visit 2 declaration (more (int (pos 1)) (more second_item none)) (first_call both_items) (a.Eval 6 ∷ a.Visit 0 1 ∷ a.Eval 0 ∷ []) [] (handed ∷ []) refl
+      (call_by declarations partitions declaration (first_call both_items) [] true refl refl) refl
       (ap (λ s. get_or s 0 []) declaration_is) refl (ap (λ xs. xs ∷ []) declaration_hands)
       ∙ simp expression_equations (rw rest refl)
 
@@ -114,7 +127,8 @@ module _ (visit : Call → Option Result) where
   unfolding paired int_wrap
   both_second rest =
       node_visit declarations partitions visit 2 declaration (more (int (pos 1)) (more second_item none)) (second_call both_items (declaration_binding 10 (declaration_binding 20 no_data)))
-      (a.Eval 4 ∷ a.Visit 0 2 ∷ a.Eval 2 ∷ []) (b.Value 1 ∷ handed) [] refl refl
+      (a.Eval 4 ∷ a.Visit 0 2 ∷ a.Eval 2 ∷ []) (b.Value 1 ∷ handed) [] refl
+      (call_by declarations partitions declaration (second_call both_items (declaration_binding 10 (declaration_binding 20 no_data))) (2 ∷ []) true (ap (λ xs. length xs ∷ []) declaration_hands) refl) refl
       (ap (λ s. get_or s 1 []) declaration_is) (ap (λ xs. b.Value 1 ∷ (xs ++ [])) declaration_hands) refl
       ∙ simp expression_equations (rw rest refl)
 
@@ -123,7 +137,7 @@ module _ (visit : Call → Option Result) where
       → visit_of_tree declarations partitions visit two_declarations (root_call two_declarations) ≡ Some (number_result 4 2)
   unfolding paired int_wrap
   root_first one two =
-      node_visit declarations partitions visit 0 top (more both_items none) (root_call two_declarations) (a.Visit 0 1 ∷ a.Eval 2 ∷ a.Visit 0 2 ∷ a.Eval 0 ∷ []) [] [] refl refl
+      node_visit declarations partitions visit 0 top (more both_items none) (root_call two_declarations) (a.Visit 0 1 ∷ a.Eval 2 ∷ a.Visit 0 2 ∷ a.Eval 0 ∷ []) [] [] refl (call_by declarations partitions top (root_call two_declarations) [] true refl refl) refl
       (ap (λ s. get_or s 0 []) top_is) refl refl
       ∙ simp expression_equations (rw one (rw two refl))
 

@@ -1,2 +1,3 @@
 pub mod EndlessLemmas
 pub mod DeclarationLemmas
+pub mod NoCallLemmas

@@ -20,7 +20,7 @@ use Rattle.lrc_plan_meaning.specs.declared.Bound.{Bound}
 use Rattle.lrc_plan_meaning.specs.Items.{symbol_at, makes, visits_of}
 use Rattle.lrc_plan_meaning.specs.Sequences.{segment}
 use Rattle.lrc_visit_meaning.specs.Values.{Call, Result}
-use Rattle.lrc_visit_meaning.specs.Visits.{Held, Given, Walked, walked_on, is_of_kind, are_of_kinds, leaf_in, equation_of, values_in, tree_at, call_of, held_at_start, step, plain_visit}
+use Rattle.lrc_visit_meaning.specs.Visits.{Held, Given, Walked, walked_on, is_of_kind, leaf_in, equation_of, values_in, tree_at, is_visited, call_of, held_at_start, step, plain_visit}
 use Rattle.lrc_visit_meaning.specs.Shown.{asked, answer, visit_height, face_of}
 
 -- A visit that is called, a result of one, and a tree or name that an expression makes.
@@ -70,7 +70,7 @@ module _ (g : Grammar) where
 
     abbrev pub node_met : (Call → Option Result) → (Call → List Met) → Production → Trees → Call → List Met
     node_met visit met p kids c =
-        cond (are_of_kinds g.prods kids p.kids)
+        cond (is_visited g parts p kids c)
         (walk_met (makes g.sorts parts p) (step g parts visit p kids) (action_met met p kids) (segment g.sorts parts p c.visit) (record { height = 0; held = held_at_start g parts p c })) []
 
     abbrev pub tree_met : (Call → Option Result) → (Call → List Met) → Tree → Call → List Met
@@ -80,7 +80,7 @@ module _ (g : Grammar) where
     tree_met visit met (node n kids) c = option_map_or (λ q. node_met visit met q kids c) (slice_get g.prods n) []
 
     -- The reach of a call with so much fuel: the call, what its walk meets, and its result where it has one. A call with no
-    -- fuel left is met.
+    -- fuel left is met, and so is what does not have the form of one.
     unfoldable pub reach : ℕ → Call → List Met
     reach zero c = called c ∷ []
     reach (suc fuel) c =

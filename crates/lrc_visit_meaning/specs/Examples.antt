@@ -1,4 +1,4 @@
--- Worked examples: the endless grammar, and results of visits.
+-- Worked examples: the endless grammar, results of visits, and what is no call.
 use Rattle.std.specs.Prelude.{ℕ, true, false, pos, List, [], ◌∷◌, codes}
 use Rattle.lrc_base.specs.declared.grammar.Kind.TheVariants as k
 use Rattle.lrc_base.specs.declared.expr.Expr.TheVariants as e
@@ -30,6 +30,10 @@ loop = node 0 none
 
 abbrev pub one : Tree
 one = node 1 none
+
+-- a call of `One()`, where this is one; its sort has one visit, with nothing inherited and nothing bound
+abbrev pub call_of_one : ℕ → List Tree → List Data → Call
+call_of_one visit inherited bindings = record { tree = one; visit = visit; inherited = inherited; bindings = bindings }
 
 -- a result with one number and no bindings
 abbrev pub number_result : ℕ → ℕ → Result

@@ -3,3 +3,4 @@ pub mod Visits
 pub mod Shown
 pub mod Demand
 pub mod Examples
+pub mod Laws

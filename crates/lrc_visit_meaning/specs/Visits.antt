@@ -3,7 +3,7 @@
 -- A visit interprets the segment of its node's production: Kastens, Ordered Attributed Grammars (1980). What earlier
 -- visits hand on comes in bindings: Pennings, Generating Incremental Attribute Evaluators (1994). The tree of a
 -- nonterminal attribute is visited as children are: Vogt, Swierstra and Kuiper, Higher-Order Attribute Grammars (1989).
-use Rattle.std.specs.Prelude.{ℕ, zero, suc, ◌+◌, ◌-◌, max, Bool, true, false, ◌&&◌, ◌==◌, cond, List, [], ◌∷◌, ◌++◌, map, flat_map, find, length, Option, Some, None, option_map, option_and_then, slice_get, slice_index_or}
+use Rattle.std.specs.Prelude.{ℕ, zero, suc, ◌+◌, ◌-◌, max, Bool, true, false, ◌&&◌, ◌==◌, nat_le, cond, List, [], ◌∷◌, ◌++◌, map, flat_map, find, length, Option, Some, None, option_map, option_and_then, slice_get, slice_index_or}
 use Rattle.std.specs.Option.{option_map_or}
 use Rattle.std.specs.List.{range_with_len}
 use Rattle.lrc_base.specs.declared.grammar.Kind.{Kind}
@@ -19,11 +19,11 @@ use Rattle.lrc_plan_meaning.specs.declared.Action.{Action}
 use Rattle.lrc_plan_meaning.specs.declared.Action.TheVariants as a
 use Rattle.lrc_plan_meaning.specs.declared.Bound.{Bound}
 use Rattle.lrc_plan_meaning.specs.declared.Bound.TheVariants as b
-use Rattle.lrc_plan_meaning.specs.Items.{same_item, visits_of, values_of_visit, symbol_at, makes}
+use Rattle.lrc_plan_meaning.specs.Items.{same_item, visits_of, attrs_of_visit, values_of_visit, symbol_at, makes}
 use Rattle.lrc_plan_meaning.specs.Sequences.{segment}
 use Rattle.lrc_plan_meaning.specs.Bindings.{binding as items_between}
 use Rattle.lrc_plan_meaning.specs.Sound.{handed_in}
-use Rattle.lrc_visit_meaning.specs.Values.{Datum, value, binding, no_data, data_row, data_list, no_tree, value_in, binding_in, Call, Result}
+use Rattle.lrc_visit_meaning.specs.Values.{Datum, value, binding, no_data, Data, data_row, data_list, no_tree, value_in, binding_in, Call, Result}
 
 -- What each item of a node holds. What an item holds that is not available yet is of no account.
 abbrev pub Held : Type 0
@@ -58,6 +58,13 @@ abbrev pub symbol_trees : List Kid → Trees → List Tree
 symbol_trees [] ts = []
 symbol_trees (kid ∷ kids) none = []
 symbol_trees (kid ∷ kids) (more t ts) = cond (is_sort kid.kind) (t ∷ symbol_trees kids ts) (symbol_trees kids ts)
+
+-- so many bindings, each of so many items
+abbrev pub are_of_lengths : List Data → List ℕ → Bool
+are_of_lengths [] [] = true
+are_of_lengths [] (n ∷ ns) = false
+are_of_lengths (ds ∷ rows) [] = false
+are_of_lengths (ds ∷ rows) (n ∷ ns) = (length (data_list ds) == n) && are_of_lengths rows ns
 
 -- what an action gives: a height, that of a visit or 0, and what the items that it makes hold
 pub record Given : Type 0 where
@@ -105,6 +112,18 @@ module _ (g : Grammar) where
       option_map_or (λ x. value_in (m (b.Value x))) (symbol_at g.sorts p s).tree (slice_index_or (symbol_trees p.kids kids) s no_tree)
 
   module _ (parts : List Partition) where
+    -- Whether a call has the form of one of a node of production p: its visit is one of the left side's, and it has as many
+    -- inherited values, as many bindings, and as many items in each, as that visit takes. Nothing else is asked of a call.
+    unfoldable pub is_call : Production → Call → Bool
+    is_call p c =
+        (nat_le 1 c.visit && nat_le c.visit (visits_of parts p.left))
+        && ((length c.inherited == length (attrs_of_visit g.sorts parts true p.left c.visit))
+        && are_of_lengths c.bindings (map (λ u. length (items_between g.sorts parts p u c.visit)) (range_with_len 1 (c.visit - 1))))
+
+    -- whether the call visits a node of production p with these children: it has its form, and they are of their kinds
+    abbrev pub is_visited : Production → Trees → Call → Bool
+    is_visited p kids c = is_call p c && are_of_kinds g.prods kids p.kids
+
     -- the call of visit v of a symbol
     abbrev pub call_of : Production → Trees → Held → ℕ → ℕ → Call
     call_of p kids m s v = let place = symbol_at g.sorts p s in record {
@@ -135,10 +154,10 @@ module _ (g : Grammar) where
           cond (is_of_kind g.prods (tree_at p kids m s) (k.Sort (symbol_at g.sorts p s).sort))
           (option_map given_by (visit (call_of p kids m s v))) None
 
-      -- a visit of a node of production p, where its children are of their kinds
+      -- a visit of a node of production p
       abbrev pub visit_of_node : Production → Trees → Call → Option Result
       visit_of_node p kids c =
-          cond (are_of_kinds g.prods kids p.kids)
+          cond (is_visited p kids c)
           (option_map (result_of p c.visit) (walk (makes g.sorts parts p) (step p kids) (segment g.sorts parts p c.visit) (record { height = 0; held = held_at_start p c })))
           None
 
@@ -152,8 +171,9 @@ module _ (g : Grammar) where
       abbrev pub one_visit : Call → Option Result
       one_visit c = visit_of_tree c.tree c
 
-    -- The visit of a call with so much fuel: a visit takes one, and hands on the rest. None where the fuel runs out, where a
-    -- visit of the segment has none, or where something that is needed is not there or is of another kind.
+    -- The visit of a call with so much fuel: a visit takes one, and hands on the rest. None where the fuel runs out, where the
+    -- call does not have the form of one, where a visit of the segment has none, or where something that is needed is not there or
+    -- is of another kind.
     unfoldable pub plain_visit : ℕ → Call → Option Result
     plain_visit zero c = None
     plain_visit (suc fuel) c = one_visit (plain_visit fuel) c
