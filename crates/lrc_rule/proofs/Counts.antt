@@ -31,10 +31,7 @@ full-one : (l : Layout) (words : List ℕ) (place row : ℕ) → bucket l words 
 full-one l words place row e = omega (arith, e)
 
 full-grows : (l : Layout) (words : List ℕ) (few more : ℕ) → few ≤ more → full_below l words few ≤ full_below l words more
-full-grows l words few zero h = ap_le few zero (omega (arith, h))
-  where
-    ap_le : (a b : ℕ) → a ≡ b → full_below l words a ≤ full_below l words b
-    ap_le a b e = let f = ap (full_below l words) e in omega (arith, f)
+full-grows l words few zero h = let e : few ≡ 0 = omega (arith, h) in let f = ap (full_below l words) e in omega (arith, f)
 full-grows l words few (suc more) h = dite (dec_le few more)
     (λ less. let g = full-grows l words few more less in omega (arith, g))
     (λ n. let e : few ≡ suc more = omega (arith, n, h) in let f = ap (full_below l words) e in omega (arith, f))
