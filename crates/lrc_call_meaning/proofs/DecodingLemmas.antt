@@ -1,6 +1,7 @@
 -- Reading calls and results back, by which their forms are injective.
 use Rattle.std.proofs.Common.{◌≡◌, ℕ, zero, suc, ◌+◌, ◌-◌, ◌≤◌, true, false, List, [], ◌∷◌, length, refl, sym, ◌∙◌, ap, arith, Some, None, cond, map, nat_lt, ◌&&◌}
 use Rattle.std.proofs.lemmas.Bool.{ne_eqb, lt-ltb}
+use Rattle.std.proofs.lemmas.Option.{same_Some}
 use Rattle.std.proofs.lemmas.Grind.{div_ceil_times}
 use Rattle.std.specs.Int.{div_ceil}
 use Rattle.std.specs.List.{AllByRecursion}
@@ -14,7 +15,7 @@ use Rattle.lrc_call_meaning.specs.Spelled.{IsSpelledName, IsSpelled, IsSpelledDa
 use Rattle.lrc_call_meaning.specs.Forms.{datum_cell, binding_cell, values_cell, bindings_cell, call_form, result_form}
 use Rattle.lrc_call_meaning.specs.Decoding.{datum_in, data_in, values_in, bindings_in, call_of, read_call, result_of, read_result}
 
--- names that are not empty are names
+-- what is spelled without empty names is spelled
 mutual
   each-spelled : (t : Tree) → IsSpelled t → AreSpelled t
   each-spelled (int i) h = tt
@@ -116,8 +117,5 @@ call-at-back c h = call-parts-back c h
 pub calls-injective : (one other : Call) → IsSpelledCall one → IsSpelledCall other → call_form one ≡ call_form other → one ≡ other
 calls-injective one other h k e = sym (call-at-back one h) ∙ ap call_at e ∙ call-at-back other k
 
-some-same : (r s : Result) → Some r ≡ Some s → r ≡ s
-some-same r s e = cc
-
 pub results-injective : (one other : Result) → IsSpelledResult one → IsSpelledResult other → result_form one ≡ result_form other → one ≡ other
-results-injective one other h k e = some-same one other (sym (result-back one h) ∙ ap read_result e ∙ result-back other k)
+results-injective one other h k e = same_Some one other (sym (result-back one h) ∙ ap read_result e ∙ result-back other k)

@@ -1,7 +1,8 @@
 -- Names, terms and expressions are spelled, part by part.
 use Rattle.std.proofs.Common.{◌≡◌, ◌⊎◌, inl, inr, ℕ, zero, suc, ◌+◌, ◌<◌, ◌≤◌, ℤ, Bool, List, [], ◌∷◌, length, map, refl, sym, ◌∙◌, ap, subst, arith, Some, Contains}
 use Rattle.std.specs.Prelude.{slice_get}
-use Rattle.std.proofs.lemmas.Option.{slice_get_within}
+use Rattle.std.proofs.lemmas.Bool.{cases_lt}
+use Rattle.std.proofs.lemmas.Option.{same_Some, slice_get_within}
 use Rattle.lrc_base.specs.Name.{IsName}
 use Rattle.lrc_base.specs.declared.term.Term.{Term}
 use Rattle.lrc_base.specs.declared.term.Term.TheVariants as v
@@ -23,24 +24,12 @@ pub name-spelled : (bytes : List ℕ) → IsName bytes → ((byte : ℕ) → Con
 name-spelled bytes is below = (is.some, λ byte held. (not-zero bytes byte is.no_zero held, below byte held))
 
 -- what holds of each of the first items, and of the next
-some-same : {X : Type 0} (x y : X) → Some x ≡ Some y → x ≡ y
-some-same x y e = cc
-
-earlier-or-last : (i n : ℕ) → i < n + 1 → (i < n) ⊎ (i ≡ n)
-earlier-or-last zero zero h = inr refl
-earlier-or-last zero (suc n) h = inl (omega arith)
-earlier-or-last (suc i) zero h = absurd (omega (arith, h))
-earlier-or-last (suc i) (suc n) h = more (earlier-or-last i n (omega (arith, h))) where
-  more : (i < n) ⊎ (i ≡ n) → (suc i < suc n) ⊎ (suc i ≡ suc n)
-  more (inl k) = inl (omega (arith, k))
-  more (inr k) = inr (ap suc k)
-
 pub next-item : {X : Type 0} (P : X → Type 0) (xs : List X) (n : ℕ) (x : X) → ((i : ℕ) (y : X) → i < n → slice_get xs i ≡ Some y → P y) →
     slice_get xs n ≡ Some x → P x → (i : ℕ) (y : X) → i < n + 1 → slice_get xs i ≡ Some y → P y
-next-item P xs n x before at held i y l e = over (earlier-or-last i n l) where
-  over : (i < n) ⊎ (i ≡ n) → P y
+next-item P xs n x before at held i y l e = over (cases_lt i n) where
+  over : (i < n) ⊎ (n ≤ i) → P y
   over (inl k) = before i y k e
-  over (inr k) = subst P (some-same x y (sym at ∙ ap (slice_get xs) (sym k) ∙ e)) held
+  over (inr k) = let last : n ≡ i = omega (arith, l, k) in subst P (same_Some x y (sym at ∙ ap (slice_get xs) last ∙ e)) held
 
 -- what holds of the items that were seen, which are all
 pub all-items : {X : Type 0} (P : X → Type 0) (seen items : List X) (n : ℕ) → seen ≡ items → length seen ≤ n → ((i : ℕ) (y : X) → i < n → slice_get seen i ≡ Some y → P y) →
