@@ -1,20 +1,21 @@
 -- Reading calls and results back, by which their forms are injective.
-use Rattle.std.proofs.Common.{◌≡◌, ℕ, zero, suc, ◌+◌, ◌-◌, ◌*◌, ◌<◌, ◌≤◌, true, false, List, [], ◌∷◌, length, refl, sym, ◌∙◌, ap, arith, Some, None, cond, map, nat_lt, ◌&&◌}
+use Rattle.std.proofs.Common.{◌≡◌, ℕ, zero, suc, ◌+◌, ◌-◌, ◌≤◌, true, false, List, [], ◌∷◌, length, refl, sym, ◌∙◌, ap, arith, Some, None, cond, map, nat_lt, ◌&&◌}
 use Rattle.std.proofs.lemmas.Bool.{ne_eqb, lt-ltb}
-use Rattle.std.proofs.lemmas.Grind.{common_steps, div_ceil_times}
+use Rattle.std.proofs.lemmas.Option.{same_Some}
+use Rattle.std.proofs.lemmas.Grind.{div_ceil_times}
 use Rattle.std.specs.Int.{div_ceil}
 use Rattle.std.specs.List.{AllByRecursion}
 use Rattle.lrc_meaning.specs.Tree.{Tree, Trees, int, bool, name, node, none, more}
 use Rattle.lrc_visit_meaning.specs.Values.{Datum, value, binding, Data, no_data, data_then, Call, Result}
 use Rattle.lrc_store.specs.Cells.{CellTree, nil, number, pair}
-use Rattle.lrc_code.specs.Forms.{words_cell, name_cell, list_cell, tree_cell, kid_cells, IsSpelling, EachName, EachNameBelow, AreSpelled}
-use Rattle.lrc_code.specs.Decoding.{items_in, tree_in}
+use Rattle.lrc_code.specs.Forms.{words_cell, name_cell, list_cell, tree_cell, kid_cells, IsSpelling, EachNameBelow, AreSpelled}
+use Rattle.lrc_code.specs.Decoding.{tree_in}
 use Rattle.lrc_code.proofs.Decoding.{items-back, tree-back}
 use Rattle.lrc_call_meaning.specs.Spelled.{IsSpelledName, IsSpelled, IsSpelledDatum, AreSpelledData, IsSpelledCall, IsSpelledResult}
-use Rattle.lrc_call_meaning.specs.Forms.{datum_cell, data_cells, binding_cell, values_cell, bindings_cell, call_form, result_form}
+use Rattle.lrc_call_meaning.specs.Forms.{datum_cell, binding_cell, values_cell, bindings_cell, call_form, result_form}
 use Rattle.lrc_call_meaning.specs.Decoding.{datum_in, data_in, values_in, bindings_in, call_of, read_call, result_of, read_result}
 
--- names that are not empty are names
+-- what is spelled without empty names is spelled
 mutual
   each-spelled : (t : Tree) → IsSpelled t → AreSpelled t
   each-spelled (int i) h = tt
@@ -56,9 +57,12 @@ mutual
   datum-back (binding no_data) h = refl
   datum-back (binding (data_then d ds)) h = ap binding (data-back (data_then d ds) h)
 
-  pub data-back : (ds : Data) → AreSpelledData ds → data_in (binding_cell ds) ≡ ds
+  data-back : (ds : Data) → AreSpelledData ds → data_in (binding_cell ds) ≡ ds
   data-back no_data h = refl
   data-back (data_then d ds) h = ap (λ x. data_then x (data_in (binding_cell ds))) (datum-back d h.0) ∙ ap (data_then d) (data-back ds h.1)
+
+pub bindings-injective : (one other : Data) → AreSpelledData one → AreSpelledData other → binding_cell one ≡ binding_cell other → one ≡ other
+bindings-injective one other h k e = sym (data-back one h) ∙ ap data_in e ∙ data-back other k
 
 -- a list whose items are read back
 each-back : {X : Type 0} (IsFine : X → Type 0) (cell : X → CellTree) (read : CellTree → X) → ((x : X) → IsFine x → read (cell x) ≡ x) →
@@ -113,8 +117,5 @@ call-at-back c h = call-parts-back c h
 pub calls-injective : (one other : Call) → IsSpelledCall one → IsSpelledCall other → call_form one ≡ call_form other → one ≡ other
 calls-injective one other h k e = sym (call-at-back one h) ∙ ap call_at e ∙ call-at-back other k
 
-some-same : (r s : Result) → Some r ≡ Some s → r ≡ s
-some-same r s e = cc
-
 pub results-injective : (one other : Result) → IsSpelledResult one → IsSpelledResult other → result_form one ≡ result_form other → one ≡ other
-results-injective one other h k e = some-same one other (sym (result-back one h) ∙ ap read_result e ∙ result-back other k)
+results-injective one other h k e = same_Some one other (sym (result-back one h) ∙ ap read_result e ∙ result-back other k)

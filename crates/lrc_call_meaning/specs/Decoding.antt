@@ -1,5 +1,5 @@
 -- The calls and results that cells stand for: the forms read back.
-use Rattle.std.specs.Prelude.{ℕ, suc, ◌-◌, ℤ, pos, negsuc, cond, Bool, ◌&&◌, nat_eq, nat_lt, List, [], ◌∷◌, map, Option, Some, None, option_map}
+use Rattle.std.specs.Prelude.{ℕ, ◌-◌, pos, negsuc, cond, ◌&&◌, nat_eq, nat_lt, List, map, Option, Some, None, option_map}
 use Rattle.lrc_meaning.specs.Tree.{Tree, int}
 use Rattle.lrc_visit_meaning.specs.Values.{Datum, value, binding, Data, no_data, data_then, Call, Result}
 use Rattle.lrc_store.specs.Cells.{CellTree, nil, number, pair}

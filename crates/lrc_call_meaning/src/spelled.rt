@@ -1,3 +1,4 @@
+ghost use Rattle.std.specs.Prelude.{ℕ, ◌<◌, Contains};
 ghost use Rattle.lrc_meaning.specs.Tree.{tree};
 ghost use Rattle.lrc_meaning.specs.Expression.{expression};
 ghost use Rattle.lrc_call_meaning.specs.Spelled.{IsSpelledName, IsSpelled, AreLiteralsSpelled};
@@ -8,8 +9,13 @@ use lrc_base::{Expr, NameText, Term};
 pub fn name_is_spelled(name: &NameText)
     ensures { IsSpelledName name.now }
 {
-    let _ = name.bytes();
+    are_below_256(name.bytes());
 }
+
+/// Bytes are below 256.
+fn are_below_256(bytes: &[u8])
+    ensures { (byte : ℕ) → Contains bytes.now byte → byte < 256 }
+{}
 
 /// The names of a term are spelled, whatever the term: their types say so. This looks at each of them,
 /// and changes nothing.
@@ -17,7 +23,8 @@ pub fn term_is_spelled(term: &Term)
     ensures { IsSpelled (tree term.now) }
 {
     match term {
-        Term::Int(_) | Term::Bool(_) => {}
+        Term::Int(_) => {}
+        Term::Bool(_) => {}
         Term::Name(name) => name_is_spelled(name.get()),
         Term::Node(_, kids) => {
             for kid in kids.as_slice() {
@@ -33,7 +40,10 @@ pub fn literals_are_spelled(expr: &Expr)
     ensures { AreLiteralsSpelled (expression expr.now) }
 {
     match expr {
-        Expr::Int(_) | Expr::Bool(_) | Expr::Occ(_) | Expr::Leaf(_) => {}
+        Expr::Int(_) => {}
+        Expr::Bool(_) => {}
+        Expr::Occ(_) => {}
+        Expr::Leaf(_) => {}
         Expr::Name(name) => name_is_spelled(name),
         Expr::Op(_, left, right) => {
             literals_are_spelled(left.get());
