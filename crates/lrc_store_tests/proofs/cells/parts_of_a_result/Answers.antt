@@ -1,7 +1,7 @@
 use Rattle.std.proofs.Common.{arith}
 use Rattle.lrc_store.specs.Standing.{meant}
 use Rattle.lrc_store.proofs.Known.{stands-meant}
-use Rattle.lrc_code.proofs.tests.parts_of_a_result.Goals as goal
+use Rattle.lrc_store_tests.proofs.cells.parts_of_a_result.Goals as goal
 
 pub result_parts-requires-clause-outcome : goal.result_parts-requires-clause-outcome
 result_parts-requires-clause-outcome g c =

@@ -1,4 +1,6 @@
-use crate::{Layout, home, place};
+//! The layout of a shared table: homes of rows and of calls, and where each word lies.
+
+use lrc_rule::{Layout, home, place};
 use lrc_store::Handle;
 use std::test::Fail;
 

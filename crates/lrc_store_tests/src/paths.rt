@@ -1,4 +1,6 @@
-use crate::Relation;
+//! Relations of seventy points, so that a row has two words: paths, and pairs that close a cycle.
+
+use lrc_graph::Relation;
 use std::test::Fail;
 
 /// A path over two words of a row: 0 to 64, 64 to 69, and 69 to 1.

@@ -1,4 +1,6 @@
-use crate::{
+//! Sources and sinks over a reader, a writer and memory, which are read and written in parts and fail in between.
+
+use lrc_outside::{
     MemorySink, MemorySource, ReadSource, Source, TakeFault, WriteSink, put_all, take_up_to,
 };
 use std::test::Fail;

@@ -1,5 +1,5 @@
 //! Copies of terms: the tree of a `let` with its names, and a tree of a thousand nodes on one path.
-use crate::{Boxed, List, NameText, Term};
+use lrc_base::{Boxed, List, NameText, Term};
 use std::alloc::Global;
 use std::test::Fail;
 

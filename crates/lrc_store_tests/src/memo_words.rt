@@ -1,3 +1,5 @@
+//! A store over a shared table: its pass, its memo words, which any thread may overwrite, and both on two threads.
+
 ghost use Rattle.std.specs.Prelude.{◌≡◌, IfOk, IsTrue};
 ghost use Rattle.lrc_store.specs.Cells.{number};
 ghost use Rattle.lrc_store.specs.Standing.{Stands, IsKnown};
@@ -5,51 +7,12 @@ ghost use Rattle.lrc_store.specs.Words.{Keeps};
 ghost use Rattle.lrc_table.specs.Passes.{IsOf};
 ghost use Rattle.lrc_memo.specs.Shared.{shared_standing};
 
-use crate::SharedStore;
+use crate::remembered::{OwnCell, is_found, is_missed, is_shared, two_numbers};
+use lrc_memo::SharedStore;
 use lrc_store::{Full, Handle, Meaning, Recall, Store};
 use lrc_table::{Pass, Table};
 use std::test::Fail;
 use std::thread::join;
-
-/// A meaning that gives each call's own cell, but for nil, as its result.
-#[derive(Drop)]
-struct OwnCell;
-
-impl Meaning for OwnCell {
-    ghost use Rattle.std.specs.Prelude.{[], ◌≡◌, ◌≢◌};
-    ghost use Rattle.lrc_store.specs.Cells.{nil};
-    ghost use Rattle.std.proofs.Common.{sym, ◌∙◌, arith};
-
-    ghost allows = { λ _ call outcome. (call ≡ outcome) × (call ≢ nil) };
-
-    ghost reach = { λ _ _ _. [] };
-
-    ghost single = { λ _ call one other h k. sym h.0 ∙ k.0 };
-
-    ghost filled = { λ _ call outcome h. (h.1, λ e. h.1 (h.0 ∙ e)) };
-
-    ghost closed = { λ _ call outcome h. (λ c. omega (arith, c.1), λ cell c. absurd (omega (arith, c.1))) };
-}
-
-/// Whether the pair of 1 and 1, put twice, has one handle, over any store.
-fn is_shared<S: Store>(store: &mut S) -> Result<bool, Full>
-    ensures { IfOk result (λ shared. IsTrue shared) }
-{
-    let one = store.int(1)?;
-    let first = store.cell(3, one, one)?;
-    let again = store.cell(3, one, one)?;
-    Ok(store.same(first, again))
-}
-
-/// The handles of two numbers, over any store.
-fn two_numbers<S: Store>(store: &mut S, one: i64, other: i64) -> Result<(Handle, Handle), Full>
-    ensures one { IfOk result (λ handles. Stands (S.state store.new) handles.0.0 (number one)) }
-    ensures other { IfOk result (λ handles. Stands (S.state store.new) handles.1.0 (number other)) }
-{
-    let first = store.int(one)?;
-    let second = store.int(other)?;
-    Ok((first, second))
-}
 
 /// Puts two cells, over any store: the store that comes back is over the same table.
 fn put_two<S: Store>(store: &mut S) -> Result<Handle, Full>
@@ -108,20 +71,6 @@ fn take_turn(store: &mut SharedStore<OwnCell>, value: i64) -> bool
     };
     store.evict(value.cast_unsigned());
     right
-}
-
-fn is_found(answer: Recall, handle: Handle) -> bool {
-    match answer {
-        Recall::Found(found) => found == handle,
-        Recall::Missed(_) => false,
-    }
-}
-
-fn is_missed(answer: Recall, word: u64) -> bool {
-    match answer {
-        Recall::Found(_) => false,
-        Recall::Missed(missed) => missed == word,
-    }
 }
 
 #[test]

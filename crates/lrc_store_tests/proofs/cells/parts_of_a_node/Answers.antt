@@ -3,7 +3,7 @@ use Rattle.lrc_store.specs.Cells.{nil}
 use Rattle.lrc_store.specs.Standing.{Standing, Stands, meant}
 use Rattle.lrc_code.specs.Forms.{more_cell, list_cell, node_cell}
 use Rattle.lrc_store.proofs.Known.{stands-meant, stands-known, kept-meant}
-use Rattle.lrc_code.proofs.tests.parts_of_a_node.Goals as goal
+use Rattle.lrc_store_tests.proofs.cells.parts_of_a_node.Goals as goal
 
 -- a node with one child
 one-kid : (s t u : Standing) (five none kids node : ℕ) → Stands s none nil → Stands t kids (more_cell (meant s five) (meant s none)) → Stands u node (node_cell 7 (meant t kids)) →

@@ -1,14 +1,16 @@
-//! A sum and two names in a plain store, and what is read back.
+//! A sum, names and truth values as cells of a plain store, and what is read back of calls, results and nodes.
+
 ghost use Rattle.std.specs.Prelude.{IfOk, IsTrue};
+ghost use Rattle.lrc_store.specs.Cells.{nil};
+ghost use Rattle.lrc_store.specs.Words.{Tells};
 ghost use Rattle.lrc_meaning.specs.Tree.{tree};
 ghost use Rattle.lrc_code.specs.Forms.{are_productions_below};
 
-use crate::pairs::nil_in;
-use crate::{
+use lrc_base::{List, NameText, Term};
+use lrc_code::{
     CallParts, ResultParts, call_parts, kid_of, production_of, put_bool, put_call, put_list,
     put_name, put_node, put_result, put_term, result_parts,
 };
-use lrc_base::{List, NameText, Term};
 use lrc_plain::PlainStore;
 use lrc_store::{Full, Handle, Store};
 use std::alloc::Global;
@@ -36,6 +38,14 @@ fn sum(alloc: Global) -> Result<Term, Fail>
     let two = num(alloc, 2)?;
     let kids = vec![in alloc; one, two]?;
     Ok(Term::Node(ADD, List::from_vec(kids)))
+}
+
+/// The handle of nil, which is known in every store.
+fn nil_in<S: Store>(store: &S) -> Handle
+    ensures { Tells (S.state store.now) result.0 nil }
+{
+    let _ = store.published();
+    Handle::NIL
 }
 
 /// The parts of a call of visit 3 of the number 5, with empty lists.

@@ -1,6 +1,6 @@
 use Rattle.lrc_store.specs.Standing.{meant}
 use Rattle.lrc_store.proofs.Known.{stands-meant}
-use Rattle.lrc_code.proofs.tests.parts_of_a_call.Goals as goal
+use Rattle.lrc_store_tests.proofs.cells.parts_of_a_call.Goals as goal
 
 pub call_parts-requires-clause-call : goal.call_parts-requires-clause-call
 call_parts-requires-clause-call g c =
