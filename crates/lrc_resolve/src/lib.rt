@@ -11,6 +11,3 @@ pub use fault::TermFault;
 pub use kinds::kind_of;
 pub use laws::found_exactly_where_fitting;
 pub use term::resolve;
-
-#[cfg(test)]
-mod tests;

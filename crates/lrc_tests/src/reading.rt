@@ -1,6 +1,9 @@
-use crate::{JobFault, Limit, read_job};
+//! The whole notation, each limit, what is nested too deep, and the first fault of other texts.
+
+use crate::jobs::{copies_of, joined};
 use lrc_base::{Job, Op, RawEdit, RawExpr, RawItem, RawKind, RawPiece, RawProd, RawTerm};
 use lrc_lex::LexFault;
+use lrc_reader::{JobFault, Limit, read_job};
 use std::alloc::{AllocError, Global};
 use std::process::Abort;
 use std::test::Fail;
@@ -118,19 +121,21 @@ struct Shape {
 
 impl Shape {
     fn text(&self, alloc: Global, times: usize) -> Result<Vec<u8>, AllocError> {
-        let mut text = Vec::new(alloc);
-        text.extend_from_slice(self.before)?;
-        for _ in 0..times {
-            text.extend_from_slice(self.open)?;
-        }
-        if !self.close.is_empty() {
-            text.extend_from_slice(b"1")?;
-        }
-        for _ in 0..times {
-            text.extend_from_slice(self.close)?;
-        }
-        text.extend_from_slice(self.after)?;
-        Ok(text)
+        let middle = if self.close.is_empty() {
+            b"".as_slice()
+        } else {
+            b"1".as_slice()
+        };
+        let opening = copies_of(alloc, self.open, times)?;
+        let closing = copies_of(alloc, self.close, times)?;
+        let pieces = [
+            self.before,
+            opening.as_slice(),
+            middle,
+            closing.as_slice(),
+            self.after,
+        ];
+        joined(alloc, pieces.as_slice())
     }
 }
 

@@ -1,4 +1,6 @@
-use crate::{Command, Verb, WordsFault, read_words};
+//! What the words of a command line set.
+
+use lrc_words::{Command, Verb, WordsFault, read_words};
 use std::alloc::Global;
 use std::test::Fail;
 
