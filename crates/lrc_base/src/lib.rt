@@ -10,8 +10,6 @@ mod job;
 mod name;
 mod raw;
 mod term;
-#[cfg(test)]
-mod tests;
 
 pub use expr::{Expr, Op};
 pub use grammar::{Attr, Equation, Extra, Given, Kid, Kind, Piece, Production, Sort};

@@ -22,6 +22,3 @@ mod words;
 pub use checked::check;
 pub use fault::{GrammarFault, GrammarKind};
 pub use first::first_fault;
-
-#[cfg(test)]
-mod tests;

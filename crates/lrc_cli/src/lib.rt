@@ -5,11 +5,7 @@
 mod job;
 mod order;
 mod run;
-#[cfg(test)]
-mod tests;
 mod text;
-#[cfg(test)]
-mod text_tests;
 mod top;
 
 pub use top::lrc;

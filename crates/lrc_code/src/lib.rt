@@ -8,8 +8,6 @@ mod lists;
 mod names;
 mod pairs;
 mod terms;
-#[cfg(test)]
-mod tests;
 
 pub use calls::{CallParts, ResultParts, call_parts, put_call, put_result, result_parts};
 pub use laws::forms_are_injective;

@@ -6,6 +6,3 @@ mod replacing;
 
 pub use places::kind_of;
 pub use replacing::{ReplaceFault, exchange, replace};
-
-#[cfg(test)]
-mod tests;

@@ -17,6 +17,3 @@ pub use grammar::Grammar;
 pub use kinds::{expression_kind, is_sort};
 pub use limits::keeps_limits;
 pub use occurrences::{Occurrence, attrs_of, attrs_of_sort, occurrences_of};
-
-#[cfg(test)]
-mod tests;

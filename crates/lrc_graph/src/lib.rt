@@ -6,7 +6,5 @@
 
 mod relation;
 mod rows;
-#[cfg(test)]
-mod tests;
 
 pub use relation::Relation;

@@ -20,8 +20,3 @@ pub use laws::{scripts_exactly_sessions_of_puts, sessions_exactly_where_fitting}
 pub use term::resolve;
 pub use term_fault::TermFault;
 pub use term_laws::found_exactly_where_fitting;
-
-#[cfg(test)]
-mod term_tests;
-#[cfg(test)]
-mod tests;

@@ -145,6 +145,3 @@ pub fn token_laws()
     ensures each { (text : Sequence ℕ) (found : Sequence Token) → Tokens text found → All (IsTokenOf text) found }
     ensures some { (text : Sequence ℕ) → ((found : Sequence Token) × Tokens text found) ⊎ ((fault : LexFault) × FirstFault text fault) }
 {}
-
-#[cfg(test)]
-mod tests;

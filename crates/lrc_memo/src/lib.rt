@@ -3,7 +3,5 @@
 #![tactic(auto)]
 
 mod shared;
-#[cfg(test)]
-mod tests;
 
 pub use shared::SharedStore;

@@ -18,6 +18,3 @@ mod written;
 pub use grammar::{Numbered, named_grammar};
 pub use occurrence::{OccurrenceName, called_occurrences};
 pub use tree::{named_tree, production_number};
-
-#[cfg(test)]
-mod tests;

@@ -3,7 +3,6 @@ pub mod Missing
 pub mod Setup
 pub mod Cycles
 pub mod Faults
-pub mod Examples
 pub mod Turns
 pub mod Numbered
 pub mod Small

@@ -8,8 +8,6 @@ mod gather;
 mod induce;
 mod needs;
 mod order_test;
-#[cfg(test)]
-mod order_tests;
 mod partition;
 mod partitions;
 mod places;
@@ -17,8 +15,6 @@ mod settle;
 mod setup;
 mod small;
 mod spread;
-#[cfg(test)]
-mod tests;
 mod turns;
 mod visits;
 

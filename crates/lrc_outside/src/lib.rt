@@ -17,6 +17,3 @@ pub use sink::{Sink, put_all};
 pub use source::{Failed, Source};
 pub use std_io::{ReadSource, WriteSink};
 pub use take_all::{TakeFault, take_up_to};
-
-#[cfg(test)]
-mod tests;

@@ -5,7 +5,5 @@ mod chains;
 mod homes;
 mod plain;
 mod rows;
-#[cfg(test)]
-mod tests;
 
 pub use plain::PlainStore;

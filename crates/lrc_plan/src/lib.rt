@@ -24,6 +24,3 @@ pub use parts_texts::parts_text;
 pub use plan_texts::plan_text;
 pub use planning::plan;
 pub use sequenced::Plan;
-
-#[cfg(test)]
-mod tests;

@@ -24,6 +24,3 @@ mod whole;
 
 pub use fault::{JobFault, Limit};
 pub use job::{fault_laws, one_job, read_job};
-
-#[cfg(test)]
-mod tests;

@@ -6,8 +6,6 @@ mod homes;
 mod laws;
 mod layout;
 mod plays;
-#[cfg(test)]
-mod tests;
 mod views;
 
 pub use homes::{home, place};

@@ -6,4 +6,3 @@ pub mod TermLemmas
 pub mod DecorationLemmas
 pub mod AttributionLemmas
 pub mod UniqueLemmas
-pub mod ExampleLemmas

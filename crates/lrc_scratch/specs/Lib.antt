@@ -1,3 +1,2 @@
 pub mod Sums
 pub mod Laws
-pub mod Example

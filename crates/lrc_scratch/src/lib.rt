@@ -6,8 +6,6 @@
 mod laws;
 mod scratch;
 mod sums;
-#[cfg(test)]
-mod tests;
 
 pub use laws::plain_attributions;
 pub use scratch::attributes;

@@ -5,8 +5,6 @@ mod attempt;
 mod laws;
 mod reply;
 mod session;
-#[cfg(test)]
-mod tests;
 
 pub use laws::one_session;
 pub use reply::{Replies, Reply};

@@ -9,7 +9,5 @@ mod calls;
 mod memo;
 mod probe;
 mod table;
-#[cfg(test)]
-mod tests;
 
 pub use table::{Pass, Table};

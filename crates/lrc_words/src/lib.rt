@@ -9,8 +9,6 @@ mod arguments;
 mod command;
 mod laws;
 mod reading;
-#[cfg(test)]
-mod tests;
 
 pub use command::{Command, Verb, WordsFault};
 pub use laws::{options_set_their_numbers, other_words_are_refused};
