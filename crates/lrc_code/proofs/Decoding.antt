@@ -8,26 +8,15 @@ use Rattle.std.proofs.lemmas.Grind.{common_steps, div_ceil_times}
 use Rattle.std.specs.Int.{div_ceil, from_le_bytes, to_le_bytes, cast_unsigned, w64}
 use Rattle.lrc_meaning.specs.Tree.{Tree, Trees, int, bool, name, node, none, more}
 use Rattle.lrc_store.specs.Cells.{CellTree, nil, number, pair}
-use Rattle.lrc_code.specs.Forms.{word, words_cell, name_cell, list_cell, tree_cell, kid_cells, IsSpelling, AreSpelled, AreKidsSpelled}
+use Rattle.lrc_code.specs.Forms.{word, words_cell, name_cell, list_cell, tree_cell, kid_cells, IsSpelling, AreSpelled, EachNameBelow}
+use Rattle.lrc_code.specs.Decoding.{items_in, nonzero, bytes_of_word, bytes_of_name, by_tag, tree_in, trees_in}
 
--- the items of a list
-abbrev items_in : CellTree → List CellTree
-items_in nil = []
-items_in (number n) = []
-items_in (pair tag left right) = left ∷ items_in right
-
-items-back : (items : List CellTree) → items_in (list_cell items) ≡ items
+pub items-back : (items : List CellTree) → items_in (list_cell items) ≡ items
 items-back [] = refl
 items-back (item ∷ items) = ap (λ rest. item ∷ rest) (items-back items)
 
 pub lists-injective : (one other : List CellTree) → list_cell one ≡ list_cell other → one ≡ other
 lists-injective one other e = sym (items-back one) ∙ ap items_in e ∙ items-back other
-
--- the bytes that are no zeros
-abbrev nonzero : List ℕ → List ℕ
-nonzero [] = []
-nonzero (zero ∷ bytes) = nonzero bytes
-nonzero (suc b ∷ bytes) = suc b ∷ nonzero bytes
 
 head-spelled : (x : ℕ) (xs : List ℕ) → IsSpelling (x ∷ xs) → (1 ≤ x) × (x < 256)
 head-spelled x xs h = h x (0, omega arith, refl)
@@ -68,17 +57,6 @@ word-back xs h =
     ap (to_le_bytes w64) (of_z-to_z w64 (from_le_bytes w64 bytes) (below bytes (small xs h 8 8)))
     ∙ le_bytes_8 bytes (from_le_bytes w64 bytes) (eight 8 xs) (small xs h 8 8) refl
 
--- the bytes of a name
-abbrev bytes_of : CellTree → List ℕ
-bytes_of nil = []
-bytes_of (number z) = nonzero (to_le_bytes w64 (cast_unsigned w64 z))
-bytes_of (pair tag left right) = []
-
-abbrev bytes_in : CellTree → List ℕ
-bytes_in nil = []
-bytes_in (number z) = []
-bytes_in (pair tag left right) = bytes_of left ++ bytes_in right
-
 drop-spelled : (n : ℕ) (xs : List ℕ) → IsSpelling xs → IsSpelling (drop n xs)
 drop-spelled zero xs h = h
 drop-spelled (suc n) [] h = h
@@ -88,47 +66,28 @@ nothing : (xs : List ℕ) → length xs ≤ 0 → [] ≡ xs
 nothing [] h = refl
 nothing (x ∷ xs) h = absurd (omega arith)
 
-words-back : (n : ℕ) (xs : List ℕ) → IsSpelling xs → length xs ≤ n * 8 → bytes_in (words_cell n xs) ≡ xs
+words-back : (n : ℕ) (xs : List ℕ) → IsSpelling xs → length xs ≤ n * 8 → bytes_of_name (words_cell n xs) ≡ xs
 words-back zero xs h l = nothing xs (omega arith)
 words-back (suc n) xs h l =
-    ap (λ front. front ++ bytes_in (words_cell n (drop 8 xs))) (ap nonzero (word-back xs h) ∙ nonzero-front 8 8 xs h)
+    ap (λ front. front ++ bytes_of_name (words_cell n (drop 8 xs))) (ap nonzero (word-back xs h) ∙ nonzero-front 8 8 xs h)
     ∙ ap (λ rest. take 8 xs ++ rest) (words-back n (drop 8 xs) (drop-spelled 8 xs h) (let long = length-drop 8 xs in omega arith))
     ∙ take-append-drop 8 xs
 
-name-back : (xs : List ℕ) → IsSpelling xs → bytes_in (name_cell xs) ≡ xs
+name-back : (xs : List ℕ) → IsSpelling xs → bytes_of_name (name_cell xs) ≡ xs
 unfolding name_cell
 name-back xs h = words-back (div_ceil (length xs) 8) xs h (div_ceil_times (length xs) 8 (omega arith)).0
 
 pub names-injective : (one other : List ℕ) → IsSpelling one → IsSpelling other → name_cell one ≡ name_cell other → one ≡ other
-names-injective one other h k e = sym (name-back one h) ∙ ap bytes_in e ∙ name-back other k
+names-injective one other h k e = sym (name-back one h) ∙ ap bytes_of_name e ∙ name-back other k
 
--- a truth value, a name or a node, by its tag
-abbrev choose : ℕ → List ℕ → Tree → Tree
-choose zero bytes t = t
-choose (suc zero) bytes t = bool false
-choose (suc (suc zero)) bytes t = bool true
-choose (suc (suc (suc zero))) bytes t = name bytes
-choose (suc (suc (suc (suc tag)))) bytes t = t
+by_tag-node : (tag : ℕ) (bytes : List ℕ) (t : Tree) → 4 ≤ tag → by_tag tag bytes t ≡ t
+by_tag-node zero bytes t h = absurd (omega arith)
+by_tag-node (suc zero) bytes t h = absurd (omega arith)
+by_tag-node (suc (suc zero)) bytes t h = absurd (omega arith)
+by_tag-node (suc (suc (suc zero))) bytes t h = absurd (omega arith)
+by_tag-node (suc (suc (suc (suc tag)))) bytes t h = refl
 
-choose-node : (tag : ℕ) (bytes : List ℕ) (t : Tree) → 4 ≤ tag → choose tag bytes t ≡ t
-choose-node zero bytes t h = absurd (omega arith)
-choose-node (suc zero) bytes t h = absurd (omega arith)
-choose-node (suc (suc zero)) bytes t h = absurd (omega arith)
-choose-node (suc (suc (suc zero))) bytes t h = absurd (omega arith)
-choose-node (suc (suc (suc (suc tag)))) bytes t h = refl
-
-abbrev mutual
-  tree_in : CellTree → Tree
-  tree_in nil = name []
-  tree_in (number n) = int n
-  tree_in (pair tag left right) = choose tag (bytes_of left ++ bytes_in right) (node (tag - 256) (trees_in left))
-
-  trees_in : CellTree → Trees
-  trees_in nil = none
-  trees_in (number n) = none
-  trees_in (pair tag left right) = more (tree_in left) (trees_in right)
-
-words-tree : (n : ℕ) (xs ys : List ℕ) → bytes_in (words_cell n xs) ≡ ys → tree_in (words_cell n xs) ≡ name ys
+words-tree : (n : ℕ) (xs ys : List ℕ) → bytes_of_name (words_cell n xs) ≡ ys → tree_in (words_cell n xs) ≡ name ys
 words-tree zero xs ys e = ap name e
 words-tree (suc n) xs ys e = ap name e
 
@@ -137,18 +96,18 @@ unfolding name_cell
 name-tree xs h = words-tree (div_ceil (length xs) 8) xs xs (name-back xs h)
 
 mutual
-  tree-back : (t : Tree) → AreSpelled t → tree_in (tree_cell t) ≡ t
+  pub tree-back : (t : Tree) → AreSpelled t → tree_in (tree_cell t) ≡ t
   tree-back (int i) h = refl
   tree-back (bool true) h = refl
   tree-back (bool false) h = refl
   tree-back (name xs) h = name-tree xs h
   tree-back (node p kids) h =
       let number : 256 + p - 256 ≡ p = omega arith in
-      choose-node (256 + p) (bytes_of (list_cell (kid_cells kids)) ++ []) (node (256 + p - 256) (trees_in (list_cell (kid_cells kids)))) (omega arith)
+      by_tag-node (256 + p) (bytes_of_word (list_cell (kid_cells kids)) ++ []) (node (256 + p - 256) (trees_in (list_cell (kid_cells kids)))) (omega arith)
       ∙ ap (λ q. node q (trees_in (list_cell (kid_cells kids)))) number
       ∙ ap (node p) (kids-back kids h)
 
-  kids-back : (ts : Trees) → AreKidsSpelled ts → trees_in (list_cell (kid_cells ts)) ≡ ts
+  kids-back : (ts : Trees) → EachNameBelow IsSpelling ts → trees_in (list_cell (kid_cells ts)) ≡ ts
   kids-back none h = refl
   kids-back (more t ts) h = ap (λ u. more u (trees_in (list_cell (kid_cells ts)))) (tree-back t h.0) ∙ ap (more t) (kids-back ts h.1)
 

@@ -71,14 +71,18 @@ abbrev mutual
 abbrev pub IsSpelling : List ℕ → Type 0
 IsSpelling bytes = (byte : ℕ) → Contains bytes byte → (1 ≤ byte) × (byte < 256)
 
--- the bytes of each name in the tree are from 1 to 255
+-- the bytes of each name in the tree are so
 abbrev mutual
-  pub AreSpelled : Tree → Type 0
-  AreSpelled (int i) = Unit {0}
-  AreSpelled (bool b) = Unit {0}
-  AreSpelled (name bytes) = IsSpelling bytes
-  AreSpelled (node production kids) = AreKidsSpelled kids
+  pub EachName : (List ℕ → Type 0) → Tree → Type 0
+  EachName IsSo (int i) = Unit {0}
+  EachName IsSo (bool b) = Unit {0}
+  EachName IsSo (name bytes) = IsSo bytes
+  EachName IsSo (node production kids) = EachNameBelow IsSo kids
 
-  pub AreKidsSpelled : Trees → Type 0
-  AreKidsSpelled none = Unit {0}
-  AreKidsSpelled (more t ts) = AreSpelled t × AreKidsSpelled ts
+  pub EachNameBelow : (List ℕ → Type 0) → Trees → Type 0
+  EachNameBelow IsSo none = Unit {0}
+  EachNameBelow IsSo (more t ts) = EachName IsSo t × EachNameBelow IsSo ts
+
+-- the bytes of each name in the tree are from 1 to 255
+abbrev pub AreSpelled : Tree → Type 0
+AreSpelled t = EachName IsSpelling t

@@ -1,3 +1,4 @@
 pub mod Forms
 pub mod Building
 pub mod Reading
+pub mod Decoding

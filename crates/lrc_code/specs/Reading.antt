@@ -1,5 +1,5 @@
 -- What is read off a cell of one of the forms.
-use Rattle.std.specs.Prelude.{ℕ, ◌≡◌, ◌<◌, ◌^◌, ℤ, List, Some, slice_get}
+use Rattle.std.specs.Prelude.{ℕ, ◌≡◌, ◌^◌, ◌-◌, min, ℤ, List, Some, slice_get}
 use Rattle.lrc_store.specs.Cells.{CellTree, number, pair}
 use Rattle.lrc_store.specs.Standing.{Standing, IsKnown, meant}
 use Rattle.lrc_code.specs.Forms.{list_cell, node_cell, call_cell, result_cell}
@@ -31,9 +31,9 @@ HasKid cell i kid = (production : ℕ) × (kids : List CellTree) × (cell ≡ no
 abbrev pub IsCall : CellTree → Type 0
 IsCall cell = (tree : CellTree) × (visit : ℕ) × (inherited : CellTree) × (bindings : CellTree) × (cell ≡ call_cell tree visit inherited bindings)
 
--- the cell is a result's
+-- the cell is a result's, of whatever height
 abbrev pub IsResult : CellTree → Type 0
-IsResult cell = (height : ℕ) × (synthesised : CellTree) × (bindings : CellTree) × (height < 2 ^ 32) × (cell ≡ result_cell height synthesised bindings)
+IsResult cell = (height : ℕ) × (synthesised : CellTree) × (bindings : CellTree) × (cell ≡ result_cell height synthesised bindings)
 
 -- these are the tag and the sides of the cell
 pub record HasSides (s : Standing) (cell : CellTree) (sides : Sides) : Type 0 where
@@ -48,8 +48,12 @@ pub record HasCallParts (s : Standing) (cell : CellTree) (parts : CallParts) : T
   pub bindings : IsKnown s parts.bindings.0
   pub whole : cell ≡ call_cell (meant s parts.tree.0) parts.visit (meant s parts.inherited.0) (meant s parts.bindings.0)
 
+-- the cell is that of a result of this height, of which no more than 2 ^ 32 - 1 is read
+abbrev pub HasHeight : CellTree → ℕ → CellTree → CellTree → Type 0
+HasHeight cell read synthesised bindings = (height : ℕ) × (read ≡ min height (2 ^ 32 - 1)) × (cell ≡ result_cell height synthesised bindings)
+
 -- the cell is that of the result of these parts
 pub record HasResultParts (s : Standing) (cell : CellTree) (parts : ResultParts) : Type 0 where
   pub synthesised : IsKnown s parts.synthesised.0
   pub bindings : IsKnown s parts.bindings.0
-  pub whole : cell ≡ result_cell parts.height (meant s parts.synthesised.0) (meant s parts.bindings.0)
+  pub whole : HasHeight cell parts.height (meant s parts.synthesised.0) (meant s parts.bindings.0)

@@ -1,4 +1,4 @@
-ghost use Rattle.std.specs.Prelude.{◌≡◌, ◌≤◌};
+ghost use Rattle.std.specs.Prelude.{◌≡◌, ◌≤◌, ◌-◌, ◌^◌, ℕ, pos, min};
 ghost use Rattle.lrc_store.specs.Standing.{IsKnown, meant};
 ghost use Rattle.lrc_store.specs.Words.{Reads};
 ghost use Rattle.lrc_code.specs.Forms.{call_cell, result_cell};
@@ -31,6 +31,7 @@ pub struct CallParts {
 /// The parts of a result.
 #[derive(Debug, Clone, Copy, PartialEq, Eq)]
 pub struct ResultParts {
+    /// The height; `u32::MAX` stands for every height from there on.
     pub height: u32,
     /// The list of synthesised values.
     pub synthesised: Handle,
@@ -102,7 +103,14 @@ pub fn call_parts<St: Store>(store: &mut St, call: Handle) -> CallParts
     }
 }
 
-/// The parts of the result that the handle stands for.
+/// The height that is read off a result's number: no more than `u32::MAX`.
+fn height_in(number: i64) -> u32
+    ensures { (height : ℕ) → number ≡ pos height → result ≡ min height (2 ^ 32 - 1) }
+{
+    u32::try_from(number).unwrap_or(u32::MAX)
+}
+
+/// The parts of the result that the handle stands for, which may be of any height.
 pub fn result_parts<St: Store>(store: &mut St, outcome: Handle) -> ResultParts
     requires known { IsKnown (St.state store.old) outcome.0 }
     requires outcome { IsResult (meant (St.state store.old) outcome.0) }
@@ -111,10 +119,10 @@ pub fn result_parts<St: Store>(store: &mut St, outcome: Handle) -> ResultParts
     ensures same_meaning { St.meaning store.new ≡ St.meaning store.old }
 {
     let whole = sides_of(store, outcome);
-    let height = number_of(store, whole.left);
+    let number = number_of(store, whole.left);
     let lists = sides_of(store, whole.right);
     ResultParts {
-        height: height as u32,
+        height: height_in(number),
         synthesised: lists.left,
         bindings: lists.right,
     }

@@ -1,4 +1,3 @@
-use Rattle.std.proofs.Common.{arith}
 use Rattle.lrc_store.specs.Standing.{meant}
 use Rattle.lrc_store.proofs.Known.{stands-meant}
 use Rattle.lrc_code.proofs.tests.parts_of_a_result.Goals as goal
@@ -9,6 +8,5 @@ result_parts-requires-clause-outcome g c =
       9,
       meant s c.nil_in-nil.result.0,
       meant s c.nil_in-nil.result.0,
-      omega arith,
       stands-meant (g.S.Store.state c.put_result.new.store) c.in_ok-outcome.outcome.0 _ c.in_ok-outcome.ensures.builds.ok.stands,
     )
