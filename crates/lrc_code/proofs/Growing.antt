@@ -1,9 +1,9 @@
 -- Stores that grow, step by step.
-use Rattle.std.proofs.Common.{◌≡◌, ℕ, List, [], ◌∷◌, refl, ap, subst, suc, zero, arith, Option, Some, None, Contains}
+use Rattle.std.proofs.Common.{◌≡◌, ℕ, List, [], ◌∷◌, subst, suc, zero, arith, Option, Some, None, Contains}
 use Rattle.std.proofs.lemmas.List.Elements.{Contains-append_left, Contains-append_right}
 use Rattle.std.proofs.lemmas.Bool.{false≢true}
 use Rattle.std.specs.Prelude.{Result, Ok, Err, IsErr}
-use Rattle.lrc_store.specs.Cells.{CellTree, nil, number, pair, parts, IsWithin, HoldsParts}
+use Rattle.lrc_store.specs.Cells.{CellTree, nil, pair, parts, IsWithin, HoldsParts}
 use Rattle.lrc_store.specs.Standing.{Standing, Stands, meant, Told}
 use Rattle.lrc_store.specs.Words.{Adds, Puts, Tells}
 use Rattle.lrc_store.specs.declared.cells.Handle.{Handle}

@@ -5,7 +5,7 @@ ghost use Rattle.lrc_store.specs.Words.{Puts, Reads, Stays, Shows, Recalls, Reme
 ghost use Rattle.lrc_rule.specs.Memo.{pair_word, memo_load, memo_store, memo_clear};
 ghost use Rattle.lrc_table.specs.Passes.{TableView, IsOf};
 ghost use Rattle.lrc_table.specs.Memo.{IsKnownWord};
-ghost use Rattle.lrc_table.specs.Standings.{NotesOnly, IsNoted, standing};
+ghost use Rattle.lrc_table.specs.Standings.{NotesOnly, NotesNone, IsNoted, standing};
 ghost use Rattle.lrc_memo.specs.Shared.{shared_standing, LiesIn, Names, NamesNot, Answers};
 
 use lrc_rule::place;
@@ -122,6 +122,7 @@ impl<'a, N: Meaning> Store for SharedStore<'a, N> {
         ensures puts { Puts (shared_standing self.old) (shared_standing self.new) (number value) result }
         ensures notes { NotesOnly self.old.pass.view self.new.pass.view (number value) }
         ensures noted { IsNoted self.old.pass.view self.new.pass.view (number value) result }
+        ensures unnoted { NotesNone self.old.pass.view self.new.pass.view result }
         ensures no_step { self.new.pass.view.learned.memo_steps ≡ self.old.pass.view.learned.memo_steps }
         ensures same_table { self.new.table ≡ self.old.table }
         ensures same_meaning { self.new.table.meaning ≡ self.old.table.meaning }
@@ -137,6 +138,7 @@ impl<'a, N: Meaning> Store for SharedStore<'a, N> {
         ensures puts { let s = shared_standing self.old in Puts s (shared_standing self.new) (pair tag (meant s left.0) (meant s right.0)) result }
         ensures notes { let s = shared_standing self.old in NotesOnly self.old.pass.view self.new.pass.view (pair tag (meant s left.0) (meant s right.0)) }
         ensures noted { let s = shared_standing self.old in IsNoted self.old.pass.view self.new.pass.view (pair tag (meant s left.0) (meant s right.0)) result }
+        ensures unnoted { NotesNone self.old.pass.view self.new.pass.view result }
         ensures no_step { self.new.pass.view.learned.memo_steps ≡ self.old.pass.view.learned.memo_steps }
         ensures same_table { self.new.table ≡ self.old.table }
         ensures same_meaning { self.new.table.meaning ≡ self.old.table.meaning }

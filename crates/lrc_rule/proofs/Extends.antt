@@ -5,21 +5,18 @@ use native.Mathlib.Decide.{ℕ_discrete}
 use Rattle.lrc_store.specs.Cells.{CellTree}
 use Rattle.lrc_rule.specs.declared.layout.Content.{Content}
 use Rattle.lrc_rule.specs.declared.layout.Layout.{Layout}
-use Rattle.lrc_rule.specs.Layout.{part_at, memo_at}
+use Rattle.lrc_rule.specs.Layout.{HasRoom, bucket_at, part_at, memo_at}
 use Rattle.lrc_rule.specs.Rows.{bucket, part, content, Names, IsPublished, depth, Stands, Fits, IsPassed, IsTable, Grows}
 use Rattle.lrc_rule.specs.Memo.{Relation, Reach, memo, IsMemoWord, IsMemo}
 use Rattle.lrc_rule.specs.Home.{place_on}
 use Rattle.lrc_rule.proofs.Growth.{content_is, content-grown, Stands-grown, Fits-grown, IsPassed-grown, IsMemoWord-grown}
+use Rattle.lrc_rule.proofs.Places.{same_bucket, same_part, same_memo, bucket_no_part, bucket_no_memo, part_no_memo, bucket-within, part-within, memo-within}
 use Rattle.lrc_rule.proofs.Unique.{Stands-from_row, published-from_named}
 
--- two parts of rows at one word are one
-pub same_part : (l : Layout) (row k other j : ℕ) → k < 4 → j < 4 → part_at l row k ≡ part_at l other j → (row ≡ other) × (k ≡ j)
-same_part l row k other j small less e = (omega (arith, e), omega (arith, e))
-
 -- words in which buckets and published rows are as they were
-kept-table : (l : Layout) (words after : List ℕ) → IsTable l words → length after ≡ length words → ((place : ℕ) → place < l.buckets → bucket l after place ≡ bucket l words place) → Grows l words after → IsTable l after
-kept-table l words after t long same g = record {
-  whole = long ∙ t.whole;
+kept-table : (l : Layout) (words after : List ℕ) → IsTable l words → HasRoom l (length after) → ((place : ℕ) → place < l.buckets → bucket l after place ≡ bucket l words place) → Grows l words after → IsTable l after
+kept-table l words after t room same g = record {
+  whole = room;
   within = λ place less. subst (λ n. n ≤ l.rows) (sym (same place less)) (t.within place less);
   once = λ one other named h k. t.once one other named (h.0, sym (same one h.0) ∙ h.1) (k.0, sym (same other k.0) ∙ k.1);
   standing = λ row h. let s = t.standing row (h.0, (h.1.0, sym (same h.0 h.1.0) ∙ h.1.1)) in (s.0, Stands-grown l words after g s.0 (suc row) s.1);
@@ -37,13 +34,13 @@ module _ (l : Layout) (words : List ℕ) (t : IsTable l words) (row k value : �
   stored_words = set words (part_at l row k) value
 
   pub store-part_same : part l stored_words row k ≡ value
-  store-part_same = get_or-set_same words (part_at l row k) value 0 (let w = t.whole in omega (arith, w))
+  store-part_same = get_or-set_same words (part_at l row k) value 0 (part-within l (length words) row k t.whole there small)
 
   pub store-part_other : (other j : ℕ) → j < 4 → (row ≡ other → k ≡ j → ⊥) → part l stored_words other j ≡ part l words other j
   store-part_other other j less differ = get_or-set_other words (part_at l row k) (part_at l other j) value 0 (λ e. let s = same_part l row k other j small less (sym e) in differ s.0 s.1)
 
   store-bucket : (place : ℕ) → place < l.buckets → bucket l stored_words place ≡ bucket l words place
-  store-bucket place less = get_or-set_other words (part_at l row k) place value 0 (λ e. omega (arith, e))
+  store-bucket place less = get_or-set_other words (part_at l row k) (bucket_at l place) value 0 (bucket_no_part l place row k less)
 
   pub store-published : (other : ℕ) → IsPublished l stored_words other → IsPublished l words other
   store-published other h = (h.0, (h.1.0, sym (store-bucket h.0 h.1.0) ∙ h.1.1))
@@ -55,10 +52,10 @@ module _ (l : Layout) (words : List ℕ) (t : IsTable l words) (row k value : �
   }
 
   pub store-table : IsTable l stored_words
-  store-table = kept-table l words stored_words t (length-set words (part_at l row k) value) store-bucket store-grows
+  store-table = kept-table l words stored_words t (length-set words (part_at l row k) value ∙ t.whole) store-bucket store-grows
 
   pub store-memo : (place : ℕ) → place < l.memo → memo l stored_words place ≡ memo l words place
-  store-memo place less = get_or-set_other words (part_at l row k) (memo_at l place) value 0 (λ e. omega (arith, e))
+  store-memo place less = get_or-set_other words (part_at l row k) (memo_at l place) value 0 (λ e. part_no_memo l row k place there small (sym e))
 
 -- ---- a store into a memo word
 
@@ -67,16 +64,16 @@ module _ (l : Layout) (words : List ℕ) (t : IsTable l words) (place value : �
   remembered_words = set words (memo_at l place) value
 
   memo_same : memo l remembered_words place ≡ value
-  memo_same = get_or-set_same words (memo_at l place) value 0 (let w = t.whole in omega (arith, w, small))
+  memo_same = get_or-set_same words (memo_at l place) value 0 (memo-within l (length words) place t.whole small)
 
   memo_other : (other : ℕ) → other ≢ place → memo l remembered_words other ≡ memo l words other
-  memo_other other n = get_or-set_other words (memo_at l place) (memo_at l other) value 0 (λ e. n (omega (arith, e)))
+  memo_other other n = get_or-set_other words (memo_at l place) (memo_at l other) value 0 (λ e. n (same_memo l other place e))
 
   memo-bucket : (other : ℕ) → other < l.buckets → bucket l remembered_words other ≡ bucket l words other
-  memo-bucket other less = get_or-set_other words (memo_at l place) other value 0 (λ e. omega (arith, e, less))
+  memo-bucket other less = get_or-set_other words (memo_at l place) (bucket_at l other) value 0 (bucket_no_memo l other place less)
 
   pub memo-part : (row k : ℕ) → row < l.rows → k < 4 → part l remembered_words row k ≡ part l words row k
-  memo-part row k there less = get_or-set_other words (memo_at l place) (part_at l row k) value 0 (λ e. omega (arith, e, there, less))
+  memo-part row k there less = get_or-set_other words (memo_at l place) (part_at l row k) value 0 (part_no_memo l row k place there less)
 
   pub memo-published : (row : ℕ) → IsPublished l remembered_words row → IsPublished l words row
   memo-published row h = (h.0, (h.1.0, sym (memo-bucket h.0 h.1.0) ∙ h.1.1))
@@ -88,7 +85,7 @@ module _ (l : Layout) (words : List ℕ) (t : IsTable l words) (place value : �
   }
 
   pub memo-table : IsTable l remembered_words
-  memo-table = kept-table l words remembered_words t (length-set words (memo_at l place) value) memo-bucket memo-grows
+  memo-table = kept-table l words remembered_words t (length-set words (memo_at l place) value ∙ t.whole) memo-bucket memo-grows
 
   pub memo-words : (allows : Relation) (reach : Reach) → IsMemo allows reach l words → IsMemoWord allows reach l words value → IsMemo allows reach l remembered_words
   memo-words allows reach m h other less = dite (ℕ_discrete other place)
@@ -101,19 +98,19 @@ module _ (l : Layout) (words : List ℕ) (t : IsTable l words) (row steps : ℕ)
     (few : steps < l.buckets) (empty : bucket l words (place_on l c steps) ≡ 0) (passed : IsPassed l words c steps)
     (fits : Fits l words cell c) (deep : part l words row 3 ≡ depth cell) (inside : place_on l c steps < l.buckets) where
   abbrev published_words : List ℕ
-  published_words = set words (place_on l c steps) (suc row)
+  published_words = set words (bucket_at l (place_on l c steps)) (suc row)
 
   pub publish-part : (other k : ℕ) → part l published_words other k ≡ part l words other k
-  publish-part other k = get_or-set_other words (place_on l c steps) (part_at l other k) (suc row) 0 (λ e. omega (arith, e, inside))
+  publish-part other k = get_or-set_other words (bucket_at l (place_on l c steps)) (part_at l other k) (suc row) 0 (λ e. bucket_no_part l (place_on l c steps) other k inside (sym e))
 
   content_stays : (other : ℕ) → content l published_words other ≡ content l words other
   content_stays other = content_is l words published_words other other (publish-part other 0) (publish-part other 1) (publish-part other 2)
 
   bucket_new : bucket l published_words (place_on l c steps) ≡ suc row
-  bucket_new = get_or-set_same words (place_on l c steps) (suc row) 0 (let w = t.whole in omega (arith, w, inside))
+  bucket_new = get_or-set_same words (bucket_at l (place_on l c steps)) (suc row) 0 (bucket-within l (length words) (place_on l c steps) t.whole inside)
 
   bucket_other : (place : ℕ) → place ≢ place_on l c steps → bucket l published_words place ≡ bucket l words place
-  bucket_other place n = get_or-set_other words (place_on l c steps) place (suc row) 0 n
+  bucket_other place n = get_or-set_other words (bucket_at l (place_on l c steps)) (bucket_at l place) (suc row) 0 (λ e. n (same_bucket l place (place_on l c steps) e))
 
   named_before : (place other : ℕ) → Names l published_words place other → ((place ≡ place_on l c steps) × (other ≡ row)) ⊎ Names l words place other
   named_before place other h = dite (ℕ_discrete place (place_on l c steps))
@@ -138,7 +135,7 @@ module _ (l : Layout) (words : List ℕ) (t : IsTable l words) (row steps : ℕ)
 
   pub publish-table : IsTable l published_words
   publish-table = record {
-    whole = length-set words (place_on l c steps) (suc row) ∙ t.whole;
+    whole = length-set words (bucket_at l (place_on l c steps)) (suc row) ∙ t.whole;
     within = λ place less. dite (ℕ_discrete place (place_on l c steps))
         (λ e. subst (λ n. n ≤ l.rows) (sym (ap (bucket l published_words) e ∙ bucket_new)) there)
         (λ n. subst (λ m. m ≤ l.rows) (sym (bucket_other place n)) (t.within place less));
@@ -165,4 +162,4 @@ module _ (l : Layout) (words : List ℕ) (t : IsTable l words) (row steps : ℕ)
   }
 
   pub publish-memo : (place : ℕ) → memo l published_words place ≡ memo l words place
-  publish-memo place = get_or-set_other words (place_on l c steps) (memo_at l place) (suc row) 0 (λ e. omega (arith, e, inside))
+  publish-memo place = get_or-set_other words (bucket_at l (place_on l c steps)) (memo_at l place) (suc row) 0 (λ e. bucket_no_memo l (place_on l c steps) place inside (sym e))

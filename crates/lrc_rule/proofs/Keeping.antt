@@ -14,7 +14,7 @@ use Rattle.atomic_table.proofs.Lists.{at_set, set_else}
 use Rattle.lrc_store.specs.Cells.{CellTree}
 use Rattle.lrc_rule.specs.declared.layout.Content.{Content}
 use Rattle.lrc_rule.specs.declared.layout.Layout.{Layout}
-use Rattle.lrc_rule.specs.Layout.{word_count, part_at, memo_at}
+use Rattle.lrc_rule.specs.Layout.{word_count, bucket_at, part_at, memo_at, IsBucketOrPart}
 use Rattle.lrc_rule.specs.Home.{place_on}
 use Rattle.lrc_rule.specs.Memo.{Relation, Reach, IsMemoPair, IsMemoWord, IsMemo, MemoStep, memo_load, memo_store, memo_clear}
 use Rattle.lrc_rule.specs.Rows.{part, content, IsPublished, depth, Fits, IsAbsent, IsPassed, IsTable, Grows}
@@ -22,7 +22,8 @@ use Rattle.lrc_rule.specs.Views.{View, Owned, now, next, AllGrow, Knows, IsRange
 use Rattle.lrc_rule.specs.Steps.{IsCurrent, Follows, Notes, Stores, IsDraftOf, IsMade, Publishes, Memoes, loaded, sought, stored, exchanged, recalled, remembered, cleared, noting, left_of, right_of, both}
 use Rattle.lrc_rule.proofs.Growth.{Grows-refl, AllGrow-trans, AllGrow-append, AreMade-grown, AreMade-append, Fits-grown, IsPassed-grown, IsMemoWord-grown, IsMemo-grown}
 use Rattle.lrc_rule.proofs.Unique.{IsAbsent-from_path, fitting_cell_unique}
-use Rattle.lrc_rule.proofs.Extends.{same_part, store-part_same, store-part_other, store-published, store-grows, store-table, store-memo, memo-part, memo-published, memo-grows, memo-table, memo-words, publish-memo, publish-grows, publish-part, publish-published, publish-stands, publish-table}
+use Rattle.lrc_rule.proofs.Places.{same_part, same_memo}
+use Rattle.lrc_rule.proofs.Extends.{store-part_same, store-part_other, store-published, store-grows, store-table, store-memo, memo-part, memo-published, memo-grows, memo-table, memo-words, publish-memo, publish-grows, publish-part, publish-published, publish-stands, publish-table}
 
 -- what other seats know and own stays, where only rows of one seat change
 knows_still : (l : Layout) (words after : List ℕ) (owner : ℕ → ℕ) (id seat : ℕ) (v : View) → Grows l words after
@@ -145,23 +146,23 @@ module _ {S : Type 0} (slots id : ℕ) (me : Me S View) where
   lost i ws (suc found) n e = (e, refl, refl)
 
   module _ {allows : Relation} {reach : Reach} where
-    load_own : (i : ℕ) → v.live ≡ true → i < memo_at v.layout 0 → Allows (Rule allows reach v.layout) slots id me i (λ n. n) (loaded (step slots i 0 0 none) me)
-    load_own i live below s r _ at _ =
+    load_own : (i : ℕ) → v.live ≡ true → IsBucketOrPart v.layout i → Allows (Rule allows reach v.layout) slots id me i (λ n. n) (loaded (step slots i 0 0 none) me)
+    load_own i live is s r _ at _ =
         let k = r.knows id v at live in let o = r.owns id v at live in (
           moved v s.words v.learned.draft v.learned.notes v.owned.made,
           keeps,
           tt,
           unmoved v.layout s r i id v v.learned.notes me.1 at live,
-          (below, refl, record { follows = follow v s.words v.learned.draft v.learned.notes v.owned.made live k.past r.table o.range; found = refl; draft = refl; made = refl }, refl),
+          (is, refl, record { follows = follow v s.words v.learned.draft v.learned.notes v.owned.made live k.past r.table o.range; found = refl; draft = refl; made = refl }, refl),
         )
 
-    pub loads : (l : Layout) (i : ℕ) → v.live ≡ true → i < memo_at v.layout 0 → Allows (Rule allows reach l) slots id me i (λ n. n) (loaded (step slots i 0 0 none) me)
-    loads l i live below = at_layout l slots id i me (λ n. n) (loaded (step slots i 0 0 none) me) live (load_own i live below)
+    pub loads : (l : Layout) (i : ℕ) → v.live ≡ true → IsBucketOrPart v.layout i → Allows (Rule allows reach l) slots id me i (λ n. n) (loaded (step slots i 0 0 none) me)
+    loads l i live is = at_layout l slots id i me (λ n. n) (loaded (step slots i 0 0 none) me) live (load_own i live is)
 
     seek_own : (cell : CellTree) (c : Content) (steps : ℕ) → IsCurrent v → place_on v.layout c steps < v.layout.buckets → Fits v.layout (now v) cell c → IsPassed v.layout (now v) c steps
-        → Allows (Rule allows reach v.layout) slots id me (place_on v.layout c steps) (λ n. n) (sought cell (step slots (place_on v.layout c steps) 0 0 none) me)
+        → Allows (Rule allows reach v.layout) slots id me (bucket_at v.layout (place_on v.layout c steps)) (λ n. n) (sought cell (step slots (bucket_at v.layout (place_on v.layout c steps)) 0 0 none) me)
     seek_own cell c steps current inside fits passed s r _ at _ =
-        let i = place_on v.layout c steps in
+        let i = bucket_at v.layout (place_on v.layout c steps) in
         let live = current.live in
         let k = r.knows id v at live in let o = r.owns id v at live in
         let g = only_past v.layout v s.words current.past k.past in
@@ -171,7 +172,7 @@ module _ {S : Type 0} (slots id : ℕ) (me : Me S View) where
           tt,
           unmoved v.layout s r i id v notes me.1 at live,
           (
-            inside,
+            (place_on v.layout c steps, inside, refl),
             refl,
             record { follows = follow v s.words v.learned.draft notes v.owned.made live k.past r.table o.range; found = refl; draft = refl; made = refl },
             noted v s.words cell (get_or s.words i 0)
@@ -179,10 +180,10 @@ module _ {S : Type 0} (slots id : ℕ) (me : Me S View) where
           ),
         )
 
-    pub seeks : (l : Layout) (i : ℕ) (cell : CellTree) (c : Content) (steps : ℕ) → IsCurrent v → i ≡ place_on v.layout c steps → i < v.layout.buckets → Fits v.layout (now v) cell c → IsPassed v.layout (now v) c steps
+    pub seeks : (l : Layout) (i : ℕ) (cell : CellTree) (c : Content) (steps : ℕ) → IsCurrent v → i ≡ bucket_at v.layout (place_on v.layout c steps) → place_on v.layout c steps < v.layout.buckets → Fits v.layout (now v) cell c → IsPassed v.layout (now v) c steps
         → Allows (Rule allows reach l) slots id me i (λ n. n) (sought cell (step slots i 0 0 none) me)
     seeks l i cell c steps current at inside fits passed = at_layout l slots id i me (λ n. n) (sought cell (step slots i 0 0 none) me) current.live
-        (subst (λ (j : ℕ). Allows (Rule allows reach v.layout) slots id me j (λ n. n) (sought cell (step slots j 0 0 none) me)) (sym at) (seek_own cell c steps current (subst (λ j. j < v.layout.buckets) at inside) fits passed))
+        (subst (λ (j : ℕ). Allows (Rule allows reach v.layout) slots id me j (λ n. n) (sought cell (step slots j 0 0 none) me)) (sym at) (seek_own cell c steps current inside fits passed))
 
     store_own : (k value : ℕ) → IsCurrent v → k < 4 → k ≤ length v.learned.draft → length v.owned.made < v.owned.quota
         → Allows (Rule allows reach v.layout) slots id me (part_at v.layout (next v) k) (λ _. value) (λ _. stored (step slots (part_at v.layout (next v) k) value 0 none) me value)
@@ -239,9 +240,10 @@ module _ {S : Type 0} (slots id : ℕ) (me : Me S View) where
 
     publish_own : (cell : CellTree) (steps : ℕ) → IsCurrent v → (d : IsDraftOf v.layout (now v) v.learned.draft cell) → steps < v.layout.buckets → place_on v.layout d.content steps < v.layout.buckets
         → IsPassed v.layout (now v) d.content steps → length v.owned.made < v.owned.quota
-        → Allows (Rule allows reach v.layout) slots id me (place_on v.layout d.content steps) (λ n. either (eqb n 0) (suc (next v)) n) (exchanged (step slots (place_on v.layout d.content steps) 0 (suc (next v)) none) me)
+        → Allows (Rule allows reach v.layout) slots id me (bucket_at v.layout (place_on v.layout d.content steps)) (λ n. either (eqb n 0) (suc (next v)) n)
+        (exchanged (step slots (bucket_at v.layout (place_on v.layout d.content steps)) 0 (suc (next v)) none) me)
     publish_own cell steps current d few inside passed room s r _ at _ =
-        let i = place_on v.layout d.content steps in
+        let i = bucket_at v.layout (place_on v.layout d.content steps) in
         let x : ℕ = get_or s.words i 0 in
         let live = current.live in
         let t = r.table in
@@ -291,6 +293,7 @@ module _ {S : Type 0} (slots id : ℕ) (me : Me S View) where
                 ];
               })),
           (
+            (place_on v.layout d.content steps, inside, refl),
             refl,
             record {
               follows = follow v after [] v.learned.notes made live (AllGrow-trans v.layout v.learned.past s.words after n.past grown) table in_range;
@@ -306,21 +309,21 @@ module _ {S : Type 0} (slots id : ℕ) (me : Me S View) where
           tt,
           subst (λ b. Rule allows reach v.layout (stepped s i (either b (suc (next v)) x) id me.1 (moved v s.words v.learned.draft v.learned.notes v.owned.made) keeps)) (sym (ne_eqb x 0 miss))
               (unmoved v.layout s r i id v v.learned.notes me.1 at live),
-          (refl, record { follows = follow v s.words v.learned.draft v.learned.notes v.owned.made live n.past t range; notes = refl; publishes = lost i s.words x miss refl }),
+          (
+            (place_on v.layout d.content steps, inside, refl),
+            refl,
+            record { follows = follow v s.words v.learned.draft v.learned.notes v.owned.made live n.past t range; notes = refl; publishes = lost i s.words x miss refl },
+          ),
         ))
 
-    pub publishes : (l : Layout) (i new : ℕ) (cell : CellTree) (steps : ℕ) → IsCurrent v → (d : IsDraftOf v.layout (now v) v.learned.draft cell) → i ≡ place_on v.layout d.content steps → steps < v.layout.buckets
-        → i < v.layout.buckets → IsPassed v.layout (now v) d.content steps → length v.owned.made < v.owned.quota → new ≡ suc (next v)
+    pub publishes : (l : Layout) (i new : ℕ) (cell : CellTree) (steps : ℕ) → IsCurrent v → (d : IsDraftOf v.layout (now v) v.learned.draft cell) → i ≡ bucket_at v.layout (place_on v.layout d.content steps) → steps < v.layout.buckets
+        → place_on v.layout d.content steps < v.layout.buckets → IsPassed v.layout (now v) d.content steps → length v.owned.made < v.owned.quota → new ≡ suc (next v)
         → Allows (Rule allows reach l) slots id me i (λ n. either (eqb n 0) new n) (exchanged (step slots i 0 new none) me)
     publishes l i new cell steps current d at few inside passed room named = at_layout l slots id i me (λ n. either (eqb n 0) new n) (exchanged (step slots i 0 new none) me) current.live
         (subst (λ (x : ℕ × ℕ). Allows (Rule allows reach v.layout) slots id me x.0 (λ n. either (eqb n 0) x.1 n) (exchanged (step slots x.0 0 x.1 none) me)) (λ j. (sym at j, sym named j))
-        (publish_own cell steps current d few (subst (λ j. j < v.layout.buckets) at inside) passed room))
+        (publish_own cell steps current d few inside passed room))
 
 -- ---- memo words
-
--- two memo words at one place are one
-same_place : (l : Layout) (place other : ℕ) → memo_at l place ≡ memo_at l other → place ≡ other
-same_place l place other e = omega (arith, e)
 
 -- the view after a step on a memo word
 abbrev noted_view : View → MemoStep → List ℕ → View
@@ -349,7 +352,7 @@ module _ {S : Type 0} {allows : Relation} {reach : Reach} (slots id : ℕ) (me :
         (
           refl,
           r.memo place small,
-          λ other e. subst (λ p. Memoes v (noted_view v entry s.words) (memo_load p found)) (same_place v.layout place other e)
+          λ other e. subst (λ p. Memoes v (noted_view v entry s.words) (memo_load p found)) (same_memo v.layout place other e)
               (memoes v entry s.words live (r.knows id v at live).past r.table (r.owns id v at live).range),
         ),
       )
@@ -397,14 +400,14 @@ module _ {S : Type 0} {allows : Relation} {reach : Reach} (slots id : ℕ) (me :
   memo_stores l i place value current at small may = at_layout l slots id i me (λ _. value) (λ _. remembered (step slots i value 0 none) me value) current.live
       (subst (λ (j : ℕ). Allows (Rule allows reach me.0.layout) slots id me j (λ _. value) (λ _. remembered (step slots j value 0 none) me value)) (sym at)
       (λ s r h there less. let a = memo_store_own place value (memo_store place value) current small (inr may) s r h there less in
-      (a.0, a.1, a.2, a.3, (a.4.0, λ other e. subst (λ p. Memoes me.0 a.0 (memo_store p value)) (same_place me.0.layout place other e) a.4.1))))
+      (a.0, a.1, a.2, a.3, (a.4.0, λ other e. subst (λ p. Memoes me.0 a.0 (memo_store p value)) (same_memo me.0.layout place other e) a.4.1))))
 
   pub memo_clears : (l : Layout) (i place : ℕ) → IsCurrent me.0 → i ≡ memo_at me.0.layout place → place < me.0.layout.memo
       → Allows (Rule allows reach l) slots id me i (λ _. 0) (λ _. cleared (step slots i 0 0 none) me 0)
   memo_clears l i place current at small = at_layout l slots id i me (λ _. 0) (λ _. cleared (step slots i 0 0 none) me 0) current.live
       (subst (λ (j : ℕ). Allows (Rule allows reach me.0.layout) slots id me j (λ _. 0) (λ _. cleared (step slots j 0 0 none) me 0)) (sym at)
       (λ s r h there less. let a = memo_store_own place 0 (memo_clear place) current small (inl refl) s r h there less in
-      (a.0, a.1, a.2, a.3, (a.4.0, λ other e. subst (λ p. Memoes me.0 a.0 (memo_clear p)) (same_place me.0.layout place other e) a.4.1))))
+      (a.0, a.1, a.2, a.3, (a.4.0, λ other e. subst (λ p. Memoes me.0 a.0 (memo_clear p)) (same_memo me.0.layout place other e) a.4.1))))
 
 -- ---- splitting and meeting
 
@@ -542,10 +545,10 @@ zeros l i = none_at (word_count l) i
 pub IsTable-zeros : (l : Layout) → IsTable l (replicate (word_count l) 0)
 IsTable-zeros l = record {
   whole = length-replicate (word_count l) 0;
-  within = λ place _. let e = zeros l place in omega (arith, e);
-  once = λ one other row h. let e : 0 ≡ suc row = sym (zeros l one) ∙ h.1 in absurd (omega (arith, e));
-  standing = λ row h. let e : 0 ≡ suc row = sym (zeros l h.0) ∙ h.1.1 in absurd (omega (arith, e));
-  reached = λ place row h. let e : 0 ≡ suc row = sym (zeros l place) ∙ h.1 in absurd (omega (arith, e));
+  within = λ place _. let e = zeros l (bucket_at l place) in omega (arith, e);
+  once = λ one other row h. let e : 0 ≡ suc row = sym (zeros l (bucket_at l one)) ∙ h.1 in absurd (omega (arith, e));
+  standing = λ row h. let e : 0 ≡ suc row = sym (zeros l (bucket_at l h.0)) ∙ h.1.1 in absurd (omega (arith, e));
+  reached = λ place row h. let e : 0 ≡ suc row = sym (zeros l (bucket_at l place)) ∙ h.1 in absurd (omega (arith, e));
 }
 
 pub opens : {S : Type 0} {allows : Relation} {reach : Reach} (l : Layout) → Rule allows reach l (opening {S = S} (replicate (word_count l) 0) [] (opening_view l))
@@ -563,7 +566,7 @@ opens l = record {
   owns = λ seat v h live. only seat v h (λ j w. Owns l (replicate (word_count l) 0) (λ _. 0) j w.owned) (record {
     range = record { within = omega arith; count = omega arith; made = tt };
     own = λ row _ _. refl;
-    unmade = λ row _ _ p. let e : 0 ≡ suc row = sym (zeros l p.0) ∙ p.1.1 in omega (arith, e);
+    unmade = λ row _ _ p. let e : 0 ≡ suc row = sym (zeros l (bucket_at l p.0)) ∙ p.1.1 in omega (arith, e);
   });
 }
   where

@@ -1,3 +1,4 @@
+pub mod Places
 pub mod Growth
 pub mod Unique
 pub mod Counts

@@ -1,10 +1,10 @@
 -- What the words of a table say: rows that are published, the cells that handles stand for, and what is always true of the words.
-use Rattle.std.specs.Prelude.{ℕ, suc, ℤ, ◌≡◌, ◌≢◌, ◌<◌, ◌≤◌, max, List, length, slice_index}
+use Rattle.std.specs.Prelude.{ℕ, zero, suc, ℤ, ◌≡◌, ◌≢◌, ◌+◌, ◌<◌, ◌≤◌, min, max, List, length, slice_index}
 use Rattle.std.specs.Int.{cast_unsigned, cast_signed, w64}
 use Rattle.lrc_store.specs.Cells.{CellTree, nil, number, pair}
 use Rattle.lrc_rule.specs.declared.layout.Content.{Content}
 use Rattle.lrc_rule.specs.declared.layout.Layout.{Layout}
-use Rattle.lrc_rule.specs.Layout.{word_count, bucket_at, part_at}
+use Rattle.lrc_rule.specs.Layout.{HasRoom, bucket_at, part_at}
 use Rattle.lrc_rule.specs.Home.{place_on}
 
 abbrev pub bucket : Layout → List ℕ → ℕ → ℕ
@@ -24,6 +24,15 @@ Names l words place row = (place < l.buckets) × (bucket l words place ≡ suc r
 -- some bucket names the row
 abbrev pub IsPublished : Layout → List ℕ → ℕ → Type 0
 IsPublished l words row = (place : ℕ) × Names l words place row
+
+-- how many of the first buckets are full
+abbrev pub full_below : Layout → List ℕ → ℕ → ℕ
+full_below l words zero = 0
+full_below l words (suc place) = full_below l words place + min 1 (bucket l words place)
+
+-- how many buckets are full
+abbrev pub full_buckets : Layout → List ℕ → ℕ
+full_buckets l words = full_below l words l.buckets
 
 -- how many cells lie on the longest way into a cell, where nil counts none
 abbrev pub depth : CellTree → ℕ
@@ -78,7 +87,7 @@ IsPassed l words c steps = (i : ℕ) → i < steps → IsOther l words c (place_
 --   standing   a published row holds a cell whose sides are in published rows, with the cell's depth
 --   reached    a published row is on the way from the home of its content, behind full buckets of other contents
 pub record IsTable (l : Layout) (words : List ℕ) : Type 0 where
-  pub whole : length words ≡ word_count l
+  pub whole : HasRoom l (length words)
   pub within : (place : ℕ) → place < l.buckets → bucket l words place ≤ l.rows
   pub once : (one other row : ℕ) → Names l words one row → Names l words other row → one ≡ other
   pub standing : (row : ℕ) → IsPublished l words row → (cell : CellTree) × Stands l words cell (suc row)

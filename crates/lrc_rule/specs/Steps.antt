@@ -4,7 +4,7 @@ use Rattle.atomic_table.specs.Table.{Me, Step}
 use Rattle.lrc_store.specs.Cells.{CellTree}
 use Rattle.lrc_rule.specs.declared.layout.Layout.{Layout}
 use Rattle.lrc_rule.specs.declared.layout.Content.{Content}
-use Rattle.lrc_rule.specs.Layout.{part_at, memo_at}
+use Rattle.lrc_rule.specs.Layout.{part_at, memo_at, IsBucket, IsBucketOrPart}
 use Rattle.lrc_rule.specs.Rows.{IsTable, Stands, Fits, IsAbsent, depth}
 use Rattle.lrc_rule.specs.Memo.{Relation, Reach, IsMemoWord, MemoStep, memo_load, memo_store, memo_clear}
 use Rattle.lrc_rule.specs.Views.{View, now, next, AllGrow, IsRange}
@@ -81,19 +81,20 @@ pub record Memoes (v w : View) (entry : MemoStep) : Type 0 where
 abbrev Kept : {S : Type 0} → Me S View → Me S View → Type 0
 Kept me me' = me'.1 ≡ me.1
 
--- a word that is no memo word is loaded
+-- a bucket or a part of a row is loaded
 abbrev pub loaded : {S : Type 0} → Step S → Me S View → ℕ → Me S View → Type 0
-loaded st me found me' = (st.word < memo_at me.0.layout 0) × Kept me me' × Loads me.0 me'.0 st.word found × (me'.0.learned.notes ≡ me.0.learned.notes)
+loaded st me found me' = IsBucketOrPart me.0.layout st.word × Kept me me' × Loads me.0 me'.0 st.word found × (me'.0.learned.notes ≡ me.0.learned.notes)
 
 -- a bucket is loaded, where a cell is sought
 abbrev pub sought : {S : Type 0} → CellTree → Step S → Me S View → ℕ → Me S View → Type 0
-sought cell st me found me' = (st.word < me.0.layout.buckets) × Kept me me' × Loads me.0 me'.0 st.word found × Notes me.0 me'.0 cell found
+sought cell st me found me' = IsBucket me.0.layout st.word × Kept me me' × Loads me.0 me'.0 st.word found × Notes me.0 me'.0 cell found
 
 abbrev pub stored : {S : Type 0} → Step S → Me S View → ℕ → Me S View → Type 0
 stored st me value me' = Kept me me' × ((k : ℕ) → k < 4 → st.word ≡ part_at me.0.layout (next me.0) k → Stores me.0 me'.0 k st.first)
 
+-- a bucket is exchanged for the next row, where it is empty
 abbrev pub exchanged : {S : Type 0} → Step S → Me S View → ℕ → Me S View → Type 0
-exchanged st me found me' = Kept me me' × Exchanges me.0 me'.0 st.word found
+exchanged st me found me' = IsBucket me.0.layout st.word × Kept me me' × Exchanges me.0 me'.0 st.word found
 
 -- a memo word is loaded: it is 0, or a pair that the meaning allows
 abbrev pub recalled : {S : Type 0} → Relation → Reach → Step S → Me S View → ℕ → Me S View → Type 0

@@ -6,9 +6,9 @@ ghost use Rattle.atomic_table.specs.Table.{Me, Allows, Splits, Joins, step, open
 ghost use Rattle.lrc_store.specs.Cells.{CellTree};
 ghost use Rattle.lrc_rule.specs.declared.layout.Layout.{Layout};
 ghost use Rattle.lrc_rule.specs.declared.layout.Content.{Content};
-ghost use Rattle.lrc_rule.specs.Layout.{word_count, part_at, memo_at};
+ghost use Rattle.lrc_rule.specs.Layout.{word_count, bucket_at, part_at, memo_at, IsBucketOrPart};
 ghost use Rattle.lrc_rule.specs.Home.{place_on};
-ghost use Rattle.lrc_rule.specs.Rows.{IsTable, Stands, Grows, Fits, IsPassed, IsAbsent, IsPublished, bucket, content, depth};
+ghost use Rattle.lrc_rule.specs.Rows.{IsTable, Stands, Grows, Fits, IsPassed, IsAbsent, IsPublished, bucket, part, full_buckets, content, depth};
 ghost use Rattle.lrc_rule.specs.Memo.{IsMemoPair};
 ghost use Rattle.lrc_rule.specs.Views.{View, Rule, now, next, opening_view, spent};
 ghost use Rattle.lrc_rule.specs.Steps.{IsCurrent, IsDraftOf, loaded, sought, stored, exchanged, recalled, remembered, cleared, left_of, right_of, both};
@@ -34,9 +34,12 @@ pub fn a_probe_ends()
     ensures absent { (l : Layout) (words : List ℕ) → IsTable l words → (cell : CellTree) (c : Content) (steps : ℕ) → Fits l words cell c → IsPassed l words c steps → bucket l words (place_on l c steps) ≡ 0 → IsAbsent l words cell }
 {}
 
-/// No cell in a table is deeper than there are rows.
+/// No cell in a table is deeper than there are full buckets, and so no depth in a published row
+/// exceeds their number, which is at most that of the rows.
 pub fn depths_are_bounded()
-    ensures { (l : Layout) (words : List ℕ) → IsTable l words → (cell : CellTree) (handle : ℕ) → Stands l words cell handle → depth cell ≤ l.rows }
+    ensures cells { (l : Layout) (words : List ℕ) → IsTable l words → (cell : CellTree) (handle : ℕ) → Stands l words cell handle → depth cell ≤ full_buckets l words }
+    ensures rows { (l : Layout) (words : List ℕ) → IsTable l words → (row : ℕ) → IsPublished l words row → part l words row 3 ≤ full_buckets l words }
+    ensures full { (l : Layout) (words : List ℕ) → IsTable l words → full_buckets l words ≤ l.rows }
 {}
 
 /// The rule is true of a new table, all of whose words are 0.
@@ -44,10 +47,11 @@ pub fn a_new_table_meets_the_rule<M: Meaning>()
     ensures { (meaning : M) (l : Layout) → Rule (M.allows meaning) (M.reach meaning) l (opening {S = Unit {0}} (replicate (word_count l) 0) [] (opening_view l)) }
 {}
 
-/// A load of any word but a memo word keeps the rule, also where a cell is sought and noted as absent.
+/// A load of a bucket or of a part of a row keeps the rule, also where a cell is sought and noted as
+/// absent.
 pub fn loads_keep_the_rule<M: Meaning>()
-    ensures load { (meaning : M) (l : Layout) (slots id : ℕ) (me : Me (Unit {0}) View) (word : ℕ) → me.0.live ≡ true → word < memo_at me.0.layout 0 → Allows (Rule (M.allows meaning) (M.reach meaning) l) slots id me word (λ n. n) (loaded (step slots word 0 0 none) me) }
-    ensures seek { (meaning : M) (l : Layout) (slots id : ℕ) (me : Me (Unit {0}) View) (word : ℕ) (cell : CellTree) (c : Content) (steps : ℕ) → IsCurrent me.0 → word ≡ place_on me.0.layout c steps → word < me.0.layout.buckets → Fits me.0.layout (now me.0) cell c
+    ensures load { (meaning : M) (l : Layout) (slots id : ℕ) (me : Me (Unit {0}) View) (word : ℕ) → me.0.live ≡ true → IsBucketOrPart me.0.layout word → Allows (Rule (M.allows meaning) (M.reach meaning) l) slots id me word (λ n. n) (loaded (step slots word 0 0 none) me) }
+    ensures seek { (meaning : M) (l : Layout) (slots id : ℕ) (me : Me (Unit {0}) View) (word : ℕ) (cell : CellTree) (c : Content) (steps : ℕ) → IsCurrent me.0 → word ≡ bucket_at me.0.layout (place_on me.0.layout c steps) → place_on me.0.layout c steps < me.0.layout.buckets → Fits me.0.layout (now me.0) cell c
         → IsPassed me.0.layout (now me.0) c steps → Allows (Rule (M.allows meaning) (M.reach meaning) l) slots id me word (λ n. n) (sought cell (step slots word 0 0 none) me) }
 {}
 
@@ -57,7 +61,7 @@ pub fn publishing_keeps_the_rule<M: Meaning>()
     ensures draft { (meaning : M) (l : Layout) (slots id : ℕ) (me : Me (Unit {0}) View) (word k value : ℕ) → IsCurrent me.0 → word ≡ part_at me.0.layout (next me.0) k → k < 4 → k ≤ length me.0.learned.draft → length me.0.owned.made < me.0.owned.quota
         → Allows (Rule (M.allows meaning) (M.reach meaning) l) slots id me word (λ _. value) (λ _. stored (step slots word value 0 none) me value) }
     ensures publish { (meaning : M) (l : Layout) (slots id : ℕ) (me : Me (Unit {0}) View) (word new : ℕ) (cell : CellTree) (steps : ℕ) → IsCurrent me.0 → (d : IsDraftOf me.0.layout (now me.0) me.0.learned.draft cell)
-        → word ≡ place_on me.0.layout d.content steps → steps < me.0.layout.buckets → word < me.0.layout.buckets → IsPassed me.0.layout (now me.0) d.content steps → length me.0.owned.made < me.0.owned.quota → new ≡ suc (next me.0)
+        → word ≡ bucket_at me.0.layout (place_on me.0.layout d.content steps) → steps < me.0.layout.buckets → place_on me.0.layout d.content steps < me.0.layout.buckets → IsPassed me.0.layout (now me.0) d.content steps → length me.0.owned.made < me.0.owned.quota → new ≡ suc (next me.0)
         → Allows (Rule (M.allows meaning) (M.reach meaning) l) slots id me word (λ n. either (n == 0) new n) (exchanged (step slots word 0 new none) me) }
 {}
 

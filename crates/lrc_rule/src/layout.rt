@@ -1,5 +1,5 @@
-ghost use Rattle.std.specs.Prelude.{◌≡◌, ◌+◌, ◌*◌, ◌<◌, ◌≤◌, ◌^◌};
-ghost use Rattle.lrc_rule.specs.Layout.{IsLayout, word_count, bucket_at, part_at, memo_at};
+ghost use Rattle.std.specs.Prelude.{◌≡◌, ◌<◌, ◌≤◌, ◌^◌};
+ghost use Rattle.lrc_rule.specs.Layout.{IsLayout, HasRoom, word_count, bucket_at, part_at, memo_at};
 
 /// How many words of each kind a table has.
 #[derive(Debug, Clone, Copy, PartialEq, Eq)]
@@ -39,14 +39,16 @@ impl Layout {
     }
 
     /// How many words there are.
+    #[tactic(auto, unfolding(crate::specs::Layout::word_count))]
     pub fn size(self) -> usize
         requires { IsLayout self }
-        ensures { result ≡ word_count self }
+        ensures { HasRoom self result }
     {
         self.buckets as usize + 4 * self.rows as usize + self.memo as usize
     }
 
     /// Which word is the bucket at a place.
+    #[tactic(auto, unfolding(crate::specs::Layout::word_count, crate::specs::Layout::bucket_at))]
     pub fn bucket(self, place: u32) -> usize
         requires { place < self.buckets }
         ensures index { result ≡ bucket_at self place }
@@ -56,17 +58,19 @@ impl Layout {
     }
 
     /// Which word is a part of a row, from 0 to 3: its tag, its left word, its right word, its depth.
+    #[tactic(auto, unfolding(crate::specs::Layout::word_count, crate::specs::Layout::part_at))]
     pub fn part(self, row: u32, part: usize) -> usize
         requires layout { IsLayout self }
         requires row { row < self.rows }
         requires part { part < 4 }
         ensures index { result ≡ part_at self row part }
-        ensures within { result < memo_at self 0 }
+        ensures within { result < word_count self }
     {
         self.buckets as usize + (4 * row as usize + part)
     }
 
     /// Which word is the memo word at a place.
+    #[tactic(auto, unfolding(crate::specs::Layout::word_count, crate::specs::Layout::memo_at))]
     pub fn memo_word(self, place: u32) -> usize
         requires layout { IsLayout self }
         requires place { place < self.memo }

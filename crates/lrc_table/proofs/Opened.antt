@@ -3,7 +3,7 @@ use Rattle.std.specs.Prelude.{Contains}
 use Rattle.std.proofs.Common.{◌≡◌, inl, inr, ⊎_elim, ℕ, zero, suc, refl, ◌+◌, ◌^◌, ◌<◌, List, [], ◌∷◌, length, get_or, sym, ◌∙◌, ap, subst, arith, length-append}
 use Rattle.lrc_rule.specs.declared.layout.Layout.{Layout}
 use Rattle.lrc_store.specs.Cells.{CellTree}
-use Rattle.lrc_rule.specs.Layout.{IsLayout, word_count, memo_at}
+use Rattle.lrc_rule.specs.Layout.{IsLayout, IsBucket, IsBucketOrPart, bucket_at, part_at}
 use Rattle.lrc_rule.specs.Memo.{Relation, Reach, IsMemoPair, IsMemoWord, MemoStep}
 use Rattle.lrc_rule.specs.Rows.{IsTable}
 use Rattle.lrc_rule.specs.Views.{View, now}
@@ -16,15 +16,12 @@ same_id a b s t e f h = ap (λ (p : PassView). p.table) e ∙ (h.0 ∙ sym (ap (
 pub same_layout : {M : Type 0} (a b : PassView) (s t : TableView M) → a ≡ b → s ≡ t → IsOf b t → a.view.layout ≡ s.layout
 same_layout a b s t e f h = ap (λ (p : PassView). p.view.layout) e ∙ (h.1 ∙ sym (ap (λ x. x.layout) f))
 
-pub below : {M : Type 0} (s t : TableView M) (n word : ℕ) → n ≡ word_count s.layout → s ≡ t → word < word_count t.layout → word < n
-below s t n word e f h = let g = ap (λ x. word_count x.layout) f in omega (arith, e, g, h)
+-- a bucket and a part of a row are that in an equal layout too
+pub bucket_of : (l m : Layout) (place word : ℕ) → l ≡ m → place < m.buckets → word ≡ bucket_at m place → IsBucketOrPart l word
+bucket_of l m place word e inside at = subst (λ n. IsBucketOrPart n word) (sym e) (inl (place, inside, at))
 
--- there is a first word, and it is no memo word
-pub some_word : (l : Layout) (n : ℕ) → n ≡ word_count l → IsLayout l → 0 < n
-some_word l n e h = let some = h.some_row in omega (arith, e, some)
-
-pub first_word : (l m : Layout) → l ≡ m → IsLayout m → 0 < memo_at l 0
-first_word l m e h = let some = h.some_row in let rows = ap (λ (x : Layout). x.rows) e in omega (arith, some, rows)
+pub part_of : (l m : Layout) (row k word : ℕ) → l ≡ m → row < m.rows → k < 4 → word ≡ part_at m row k → IsBucketOrPart l word
+part_of l m row k word e there small at = subst (λ n. IsBucketOrPart n word) (sym e) (inr (row, k, there, small, at))
 
 -- what is known of a pass stays, as a step on a memo word is noted
 pub noted-current : (v : View) (entry : MemoStep) → IsCurrent v → IsCurrent (noting v entry)
@@ -68,9 +65,9 @@ IsPass-follows v w carried held first quota count h f made none = record {
 }
 
 -- where the row was published there is one more
-pub IsPass-publishes : {S : Type 0} (v w : View) (carried held : List (ℕ × S)) (first quota count found word : ℕ) → IsPass v carried first quota count → Exchanges v w word found → found ≡ 0 → IsReady v word → held ≡ carried
+pub IsPass-publishes : {S : Type 0} (v w : View) (carried held : List (ℕ × S)) (first quota count found word place : ℕ) → IsPass v carried first quota count → Exchanges v w word found → found ≡ 0 → IsReady v place → held ≡ carried
     → IsPass w held first quota (count + 1)
-IsPass-publishes v w carried held first quota count found word h x hit ready none =
+IsPass-publishes v w carried held first quota count found word place h x hit ready none =
     let made : IsMade v w ready.cell = subst (Publishes v w word) hit x.publishes ready.cell ready.drafted in
     let f = x.follows in record {
       current = f.current;
@@ -90,12 +87,12 @@ IsPass-lost v w carried held first quota count found word h x miss none = IsPass
     kept (suc n) m p = p.2
 
 -- a word of a bucket is at most the number of rows
-pub bucket-small : (l : Layout) (words : List ℕ) (place found : ℕ) → IsTable l words → IsLayout l → place < l.buckets → found ≡ get_or words place 0 → found < 2 ^ 32
-bucket-small l words place found t h inside e = let w = t.within place inside in let r = h.rows in omega (arith, w, r, e)
+pub bucket-small : (l : Layout) (words : List ℕ) (word found : ℕ) → IsTable l words → IsLayout l → IsBucket l word → found ≡ get_or words word 0 → found < 2 ^ 32
+bucket-small l words word found t h is e = let w = t.within is.0 is.1 in let r = h.rows in let at = ap (λ n. get_or words n 0) is.2 in omega (arith, w, r, e, at)
 
-pub exchanged-small : (v w : View) (place found : ℕ) → IsLayout v.layout → place < v.layout.buckets → Exchanges v w place found → found < 2 ^ 32
-exchanged-small v w place found h inside x = by_found found x.publishes
+pub exchanged-small : (v w : View) (word found : ℕ) → IsLayout v.layout → IsBucket v.layout word → Exchanges v w word found → found < 2 ^ 32
+exchanged-small v w word found h is x = by_found found x.publishes
   where
-    by_found : (n : ℕ) → Publishes v w place n → n < 2 ^ 32
+    by_found : (n : ℕ) → Publishes v w word n → n < 2 ^ 32
     by_found zero p = omega arith
-    by_found (suc n) p = bucket-small w.layout (now w) place (suc n) x.follows.current.table (subst IsLayout (sym x.follows.layout) h) (let e = ap (λ l. l.buckets) x.follows.layout in omega (arith, e, inside)) p.0
+    by_found (suc n) p = bucket-small w.layout (now w) word (suc n) x.follows.current.table (subst IsLayout (sym x.follows.layout) h) (subst (λ l. IsBucket l word) (sym x.follows.layout) is) p.0

@@ -11,14 +11,15 @@ use Rattle.lrc_table.specs.declared.probe.Claim.TheVariants as claim
 use Rattle.lrc_store.specs.declared.stores.Full.{Full}
 use Rattle.lrc_rule.specs.declared.layout.Content.{Content}
 use Rattle.lrc_rule.specs.declared.layout.Layout.{Layout}
-use Rattle.lrc_rule.specs.Layout.{IsLayout}
+use Rattle.lrc_rule.specs.Layout.{IsLayout, bucket_at}
 use Rattle.lrc_rule.specs.Home.{home_of, place_on}
-use Rattle.lrc_rule.specs.Rows.{Stands, Fits, IsPassed, IsOther, Names, content, depth}
+use Rattle.lrc_rule.specs.Rows.{Stands, Fits, IsPassed, IsOther, Names, bucket, content, depth}
 use Rattle.lrc_rule.specs.Views.{View, now, next}
 use Rattle.lrc_rule.specs.Steps.{IsCurrent, Follows, Loads, Notes, IsMade, Publishes, Exchanges, IsDraftOf}
 use Rattle.lrc_rule.proofs.Unique.{Stands-from_content}
 use Rattle.lrc_rule.proofs.Counts.{passed-le}
-use Rattle.lrc_table.specs.Passes.{PassView, Reads, Seeks, AreNoted, Drafts, IsReady, IsOnPath, IsSpentFor, Claims, Answers, PassesBy}
+use Rattle.lrc_table.specs.Passes.{PassView, Reads, Seeks, AreNoted, Drafts, IsReady, IsOnPath, IsSpentFor, IsUnnoted, Claims, Answers, PassesBy}
+use Rattle.lrc_table.specs.Standings.{NotesNone}
 use Rattle.lrc_table.proofs.Follow.{Follows-refl, Follows-trans, published-later, names-later, Fits-later, IsPassed-later}
 
 -- ---- the depth of a content
@@ -95,9 +96,20 @@ IsSpentFor-later p q r cell f same s = record {
   );
 }
 
-pub Answers-later : (p q r : PassView) (cell : CellTree) (answer : Result Handle Full) → Seeks p q cell → q.view.owned.made ≡ p.view.owned.made → Answers q r cell answer → Answers p r cell answer
-Answers-later p q r cell (Ok handle) f same a = a
-Answers-later p q r cell (Err full) f same a = (tt, IsSpentFor-later p q r cell f same a.1)
+pub IsUnnoted-trans : (p q r : PassView) → Follows p.view q.view → q.view.owned.made ≡ p.view.owned.made → IsUnnoted p q → IsUnnoted q r → IsUnnoted p r
+IsUnnoted-trans p q r f same h k used = k (ap length same ∙ (used ∙ sym f.quota)) ∙ h used
+
+-- a pass that has a row left is none that may not note
+pub IsUnnoted-room : (p q : PassView) → length p.view.owned.made < p.view.owned.quota → IsUnnoted p q
+IsUnnoted-room p q room used = absurd (omega (arith, room, used))
+
+pub Answers-later : (p q r : PassView) (cell : CellTree) (answer : Result Handle Full) → Seeks p q cell → q.view.owned.made ≡ p.view.owned.made → IsUnnoted p q → Answers q r cell answer → Answers p r cell answer
+Answers-later p q r cell (Ok handle) f same h a = ((a.0.0, IsUnnoted-trans p q r f.follows same h a.0.1), tt)
+Answers-later p q r cell (Err full) f same h a = (tt, IsSpentFor-later p q r cell f same a.1)
+
+pub Answers-unnoted : (p q : PassView) (cell : CellTree) (answer : Result Handle Full) → Answers p q cell answer → NotesNone p.view q.view answer
+Answers-unnoted p q cell (Ok handle) a used = a.0.1 used
+Answers-unnoted p q cell (Err full) a used = tt
 
 -- ---- publishing
 
@@ -115,21 +127,21 @@ ready_after p q cell c place current path d =
       passed = IsPassed-later p.view q.view c path.steps current d.follows path.passed;
     }
 
-pub made_after : (p q r : PassView) (cell : CellTree) (c : Content) (place found : ℕ) → IsCurrent p.view → IsOnPath p.view cell c place → Drafts p q c (depth cell) → Exchanges q.view r.view place found → found ≡ 0
+pub made_after : (p q r : PassView) (cell : CellTree) (c : Content) (place found : ℕ) → IsCurrent p.view → IsOnPath p.view cell c place → Drafts p q c (depth cell) → Exchanges q.view r.view (bucket_at r.view.layout place) found → found ≡ 0
     → IsMade q.view r.view cell
 made_after p q r cell c place found current path d x e =
-    let h = subst (Publishes q.view r.view place) e x.publishes in
+    let h = subst (Publishes q.view r.view (bucket_at r.view.layout place)) e x.publishes in
     h cell (drafted_after p q cell c place current path d)
 
-kept_after : (v w : View) (place found : ℕ) → Publishes v w place found → ¬ (found ≡ 0) → w.owned.made ≡ v.owned.made
-kept_after v w place zero p n = absurd (n refl)
-kept_after v w place (suc found) p n = p.2
+kept_after : (v w : View) (word found : ℕ) → Publishes v w word found → ¬ (found ≡ 0) → w.owned.made ≡ v.owned.made
+kept_after v w word zero p n = absurd (n refl)
+kept_after v w word (suc found) p n = p.2
 
-found_after : (v w : View) (place found : ℕ) → Publishes v w place found → ¬ (found ≡ 0) → found ≡ get_or (now w) place 0
-found_after v w place zero p n = absurd (n refl)
-found_after v w place (suc found) p n = p.0
+found_after : (v w : View) (word found : ℕ) → Publishes v w word found → ¬ (found ≡ 0) → found ≡ get_or (now w) word 0
+found_after v w word zero p n = absurd (n refl)
+found_after v w word (suc found) p n = p.0
 
-pub exchanged_own : (p q r : PassView) (cell : CellTree) (c : Content) (place found : ℕ) → IsCurrent p.view → IsOnPath p.view cell c place → Drafts p q c (depth cell) → r.table ≡ q.table → Exchanges q.view r.view place found → found ≡ 0
+pub exchanged_own : (p q r : PassView) (cell : CellTree) (c : Content) (place found : ℕ) → IsCurrent p.view → IsOnPath p.view cell c place → Drafts p q c (depth cell) → r.table ≡ q.table → Exchanges q.view r.view (bucket_at r.view.layout place) found → found ≡ 0
     → Seeks p r cell
 exchanged_own p q r cell c place found current path d table x e = let m = made_after p q r cell c place found current path d x e in record {
   table = table ∙ d.table;
@@ -138,34 +150,38 @@ exchanged_own p q r cell c place found current path d table x e = let m = made_a
   noted = (0, notes-none cell _ _ (x.notes ∙ d.notes));
 }
 
-pub own_stands : (p q r : PassView) (cell : CellTree) (c : Content) (place found handle : ℕ) → IsCurrent p.view → IsOnPath p.view cell c place → Drafts p q c (depth cell) → Exchanges q.view r.view place found → found ≡ 0
+pub own_stands : (p q r : PassView) (cell : CellTree) (c : Content) (place found handle : ℕ) → IsCurrent p.view → IsOnPath p.view cell c place → Drafts p q c (depth cell) → Exchanges q.view r.view (bucket_at r.view.layout place) found → found ≡ 0
     → handle ≡ next r.view → Stands r.view.layout (now r.view) cell handle
 own_stands p q r cell c place found handle current path d x e last = let m = made_after p q r cell c place found current path d x e in
     let long = ap length m.made in let more = length-append q.view.owned.made (cell ∷ []) in let from = x.follows.from in
     subst (Stands r.view.layout (now r.view) cell) (let h : suc (next q.view) ≡ handle = omega (arith, long, more, from, last) in h) m.stands
 
-pub exchanged_lost : (p q r : PassView) (cell : CellTree) (c : Content) (place found : ℕ) → Drafts p q c (depth cell) → r.table ≡ q.table → Exchanges q.view r.view place found → ¬ (found ≡ 0) → Seeks p r cell
+pub exchanged_lost : (p q r : PassView) (cell : CellTree) (c : Content) (place found : ℕ) → Drafts p q c (depth cell) → r.table ≡ q.table → Exchanges q.view r.view (bucket_at r.view.layout place) found → ¬ (found ≡ 0) → Seeks p r cell
 exchanged_lost p q r cell c place found d table x n = record {
   table = table ∙ d.table;
   follows = Follows-trans p.view q.view r.view d.follows x.follows;
-  made = inl (kept_after q.view r.view place found x.publishes n ∙ d.made);
+  made = inl (kept_after q.view r.view _ found x.publishes n ∙ d.made);
   noted = (0, notes-none cell _ _ (x.notes ∙ d.notes));
 }
 
 -- the word of a full bucket names a row
-pub named_by : (v : View) (place found : ℕ) → place < v.layout.buckets → found ≡ get_or (now v) place 0 → ¬ (found ≡ 0) → (row : ℕ) × (found ≡ suc row) × Names v.layout (now v) place row
+pub named_by : (v : View) (place found : ℕ) → place < v.layout.buckets → found ≡ bucket v.layout (now v) place → ¬ (found ≡ 0) → (row : ℕ) × (found ≡ suc row) × Names v.layout (now v) place row
 named_by v place zero inside e n = absurd (n refl)
 named_by v place (suc row) inside e n = (row, refl, (inside, sym e))
 
-pub lost_names : (p q r : PassView) (c : Content) (deep place found : ℕ) → Drafts p q c deep → Exchanges q.view r.view place found → ¬ (found ≡ 0) → place < r.view.layout.buckets
-    → ((row : ℕ) × (found ≡ suc row) × Names r.view.layout (now r.view) place row) × (r.view.owned.made ≡ p.view.owned.made)
-lost_names p q r c deep place found d x n inside = (named_by r.view place found inside (found_after q.view r.view place found x.publishes n) n, kept_after q.view r.view place found x.publishes n ∙ d.made)
+pub lost_names : (p q r : PassView) (c : Content) (deep place found : ℕ) → Drafts p q c deep → Exchanges q.view r.view (bucket_at r.view.layout place) found → ¬ (found ≡ 0) → place < r.view.layout.buckets
+    → length p.view.owned.made < p.view.owned.quota → ((row : ℕ) × (found ≡ suc row) × Names r.view.layout (now r.view) place row) × (r.view.owned.made ≡ p.view.owned.made) × IsUnnoted p r
+lost_names p q r c deep place found d x n inside room = (named_by r.view place found inside (found_after q.view r.view _ found x.publishes n) n, kept_after q.view r.view _ found x.publishes n ∙ d.made, IsUnnoted-room p r room)
 
 -- ---- one place
 
 pub noted_once : (v w : View) (cell : CellTree) (found : ℕ) → Notes v w cell found → (count : ℕ) × AreNoted count cell v.learned.notes w.learned.notes
 noted_once v w cell zero h = (1, h.1)
 noted_once v w cell (suc found) h = (0, notes-none cell _ _ h)
+
+pub full_unnoted : (v w : View) (cell : CellTree) (found : ℕ) → Notes v w cell found → ¬ (found ≡ 0) → w.learned.notes ≡ v.learned.notes
+full_unnoted v w cell zero h n = absurd (n refl)
+full_unnoted v w cell (suc found) h n = h
 
 pub Seeks-loads : (p q : PassView) (cell : CellTree) (word found : ℕ) → q.table ≡ p.table → Loads p.view q.view word found → Notes p.view q.view cell found → Seeks p q cell
 Seeks-loads p q cell word found table h n = record { table = table; follows = h.follows; made = inl h.made; noted = noted_once p.view q.view cell found n }
@@ -183,10 +199,10 @@ path_later v w cell c place current f path =
       passed = IsPassed-later v w c path.steps current f path.passed;
     }
 
-pub Claims-later : (p q r : PassView) (cell : CellTree) (place : ℕ) (c : Claim) → Seeks p q cell → q.view.owned.made ≡ p.view.owned.made → Claims q r cell place c → Claims p r cell place c
-Claims-later p q r cell place claim.Full f same s = IsSpentFor-later p q r cell f same s
-Claims-later p q r cell place (claim.Own handle) f same s = s
-Claims-later p q r cell place (claim.Taken handle) f same s = (s.0, s.1 ∙ same)
+pub Claims-later : (p q r : PassView) (cell : CellTree) (place : ℕ) (c : Claim) → Seeks p q cell → q.view.owned.made ≡ p.view.owned.made → IsUnnoted p r → Claims q r cell place c → Claims p r cell place c
+Claims-later p q r cell place claim.Full f same h s = IsSpentFor-later p q r cell f same s
+Claims-later p q r cell place (claim.Own handle) f same h s = (s.0, h)
+Claims-later p q r cell place (claim.Taken handle) f same h s = (s.0, s.1 ∙ same, h)
 
 -- the row before a handle
 pub taken_published : (l : Layout) (words : List ℕ) (place handle : ℕ) → ((row : ℕ) × (handle ≡ suc row) × Names l words place row) → Names l words place (handle - 1)
@@ -232,6 +248,7 @@ other_content c d e same = false≢true (e ∙ subst (λ x. eqb c.tag x.tag && (
 pub record Tried (p q : PassView) (cell : CellTree) (c : Content) (steps : ℕ) : Type 0 where
   pub seeks : Seeks p q cell
   pub made : q.view.owned.made ≡ p.view.owned.made
+  pub unnoted : IsUnnoted p q
   pub fits : Fits q.view.layout (now q.view) cell c
   pub passed : IsPassed q.view.layout (now q.view) c steps
 
@@ -239,6 +256,7 @@ pub Tried-none : (p : PassView) (cell : CellTree) (c : Content) → IsCurrent p.
 Tried-none p cell c current fits = record {
   seeks = record { table = refl; follows = Follows-refl p.view current; made = inl refl; noted = (0, notes-none cell _ _ refl) };
   made = refl;
+  unnoted = λ _. refl;
   fits = fits;
   passed = λ i small. absurd (omega (arith, small));
 }
@@ -251,6 +269,7 @@ pub Tried-more : (p q r : PassView) (cell : CellTree) (c : Content) (steps place
 Tried-more p q r cell c steps place t at s by = let f = s.follows in let current = t.seeks.follows.current in record {
   seeks = Seeks-trans p q r cell t.seeks t.made s;
   made = by.1 ∙ t.made;
+  unnoted = IsUnnoted-trans p q r t.seeks.follows t.made t.unnoted by.2;
   fits = Fits-later q.view r.view cell c current f t.fits;
   passed = passed-more r.view.layout (now r.view) c steps place (IsPassed-later q.view r.view c steps current f t.passed) (at ∙ ap (λ l. place_on l c steps) (sym f.layout)) by.0;
 }

@@ -1,6 +1,6 @@
 -- What the calls of a pass do, in the words of a store.
 use Rattle.std.proofs.lemmas.List.Elements.{Contains-append_left, Contains-append_right, Contains-append_cases}
-use Rattle.std.proofs.Common.{◌≡◌, ◌≢◌, inl, ⊎_elim, ℕ, ℤ, zero, suc, ◌-◌, ◌<◌, ◌≤◌, List, [], ◌∷◌, ◌++◌, refl, sym, ◌∙◌, ap, subst, arith}
+use Rattle.std.proofs.Common.{◌≡◌, ◌≢◌, ⊎_elim, ℕ, ℤ, zero, suc, ◌-◌, ◌<◌, ◌≤◌, List, [], ◌∷◌, ◌++◌, refl, sym, ◌∙◌, ap, subst, arith}
 use Rattle.std.specs.Prelude.{Option, Some, None, unwrap_or, Contains, option_to_list, Result, Ok, Err, IfOk, OnErr, slice_index_or}
 use Rattle.std.specs.Int.{cast_signed, cast_unsigned, w64}
 use mathlib.Core.Logic.{dite}
@@ -22,7 +22,7 @@ use Rattle.lrc_rule.specs.Rows.{Grows}
 use Rattle.lrc_rule.proofs.Growth.{Stands-grown}
 use Rattle.lrc_rule.specs.Steps.{IsCurrent, Follows}
 use Rattle.lrc_rule.proofs.Unique.{row_of, handle_unique}
-use Rattle.lrc_table.specs.Passes.{PassView, Reads, Seeks, IsSpentFor, Answers, Meets}
+use Rattle.lrc_table.specs.Passes.{PassView, Reads, Seeks, IsSpentFor, IsUnnoted, StandsFor, Answers, Meets}
 use Rattle.lrc_table.specs.Standings.{cell_at, cells_below, standing}
 use Rattle.lrc_table.proofs.Follow.{Stands-later, row-below, handle-le, depth_at}
 use Rattle.lrc_table.proofs.Standings.{known-from, known-to}
@@ -180,8 +180,8 @@ puts p q cell answer c layout s a = record {
   full = by_full answer a.1;
 }
   where
-    by_ok : (r : Result Handle Full) → IfOk r (λ handle. Stands q.view.layout (now q.view) cell handle.0) → IfOk r (λ handle. Tells (standing q.view) handle.0 cell)
-    by_ok (Ok handle) h = record { stands = known-from q.view.layout (now q.view) s.follows.current.table cell handle.0 h; seen = seen-parts q.view.layout (now q.view) s.follows.current.table cell handle.0 h }
+    by_ok : (r : Result Handle Full) → IfOk r (λ handle. StandsFor q handle cell × IsUnnoted p q) → IfOk r (λ handle. Tells (standing q.view) handle.0 cell)
+    by_ok (Ok handle) h = record { stands = known-from q.view.layout (now q.view) s.follows.current.table cell handle.0 h.0; seen = seen-parts q.view.layout (now q.view) s.follows.current.table cell handle.0 h.0 }
     by_ok (Err full) h = tt
 
     by_full : (r : Result Handle Full) → OnErr r (IsSpentFor p q cell) → OnErr r (IsFullFor (standing q.view) cell)

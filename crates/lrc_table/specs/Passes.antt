@@ -110,13 +110,17 @@ pub record IsSpentFor (p q : PassView) (cell : CellTree) : Type 0 where
   pub absent : IsAbsent q.view.layout (now q.view) cell
   pub noted : (count : ℕ) × AreNoted (suc count) cell p.view.learned.notes q.view.learned.notes
 
+-- a pass all of whose rows were used noted nothing
+abbrev pub IsUnnoted : PassView → PassView → Type 0
+IsUnnoted p q = length p.view.owned.made ≡ p.view.owned.quota → q.view.learned.notes ≡ p.view.learned.notes
+
 -- the handle stands for the cell
 abbrev pub StandsFor : PassView → Handle → CellTree → Type 0
 StandsFor q handle cell = Stands q.view.layout (now q.view) cell handle.0
 
 -- what is answered of a cell that was sought
 abbrev pub Answers : PassView → PassView → CellTree → Result Handle Full → Type 0
-Answers p q cell answer = IfOk answer (λ handle. StandsFor q handle cell) × OnErr answer (IsSpentFor p q cell)
+Answers p q cell answer = IfOk answer (λ handle. StandsFor q handle cell × IsUnnoted p q) × OnErr answer (IsSpentFor p q cell)
 
 -- the path of the cell's three words leads to this place, and the places before it hold others
 pub record IsOnPath (v : View) (cell : CellTree) (content : Content) (place : ℕ) : Type 0 where
@@ -129,12 +133,12 @@ pub record IsOnPath (v : View) (cell : CellTree) (content : Content) (place : �
 -- what the bucket at a place holds after the pass tried to publish there
 abbrev pub Claims : PassView → PassView → CellTree → ℕ → Claim → Type 0
 Claims p q cell place claim.Full = IsSpentFor p q cell
-Claims p q cell place (claim.Own handle) = StandsFor q handle cell
-Claims p q cell place (claim.Taken handle) = ((row : ℕ) × (handle.0 ≡ suc row) × Names q.view.layout (now q.view) place row) × (q.view.owned.made ≡ p.view.owned.made)
+Claims p q cell place (claim.Own handle) = StandsFor q handle cell × IsUnnoted p q
+Claims p q cell place (claim.Taken handle) = ((row : ℕ) × (handle.0 ≡ suc row) × Names q.view.layout (now q.view) place row) × (q.view.owned.made ≡ p.view.owned.made) × IsUnnoted p q
 
 -- the place holds the row of another cell, and no row was made
 abbrev pub PassesBy : PassView → PassView → Content → ℕ → Type 0
-PassesBy p q content place = IsOther q.view.layout (now q.view) content place × (q.view.owned.made ≡ p.view.owned.made)
+PassesBy p q content place = IsOther q.view.layout (now q.view) content place × (q.view.owned.made ≡ p.view.owned.made) × IsUnnoted p q
 
 -- the pass drafted a row
 pub record Drafts (p q : PassView) (content : Content) (deep : ℕ) : Type 0 where

@@ -1,18 +1,18 @@
 -- What a pass stands for, as a store.
-use Rattle.std.specs.Prelude.{ℕ, zero, suc, ◌≡◌, Bool, false, cond, ◌||◌, nat_eq, List, [], ◌∷◌, ◌++◌, take, replicate, Option, Some, None, option_to_list, Result, OnErr}
+use Rattle.std.specs.Prelude.{ℕ, zero, suc, ◌≡◌, Bool, false, cond, ◌||◌, nat_eq, List, [], ◌++◌, length, replicate, Option, Some, None, option_to_list, Result, IfOk, OnErr}
 use Rattle.std.specs.Int.{cast_signed, w64}
 use Rattle.lrc_store.specs.Cells.{CellTree, nil, number, pair}
 use Rattle.lrc_store.specs.Standing.{Standing}
 use Rattle.lrc_store.specs.declared.cells.Handle.{Handle}
 use Rattle.lrc_store.specs.declared.stores.Full.{Full}
 use Rattle.lrc_rule.specs.declared.layout.Layout.{Layout}
-use Rattle.lrc_rule.specs.Rows.{content}
+use Rattle.lrc_rule.specs.Rows.{bucket, content}
 use Rattle.lrc_rule.specs.Views.{View, now}
 
--- the number is in the list
-abbrev pub is_in : ℕ → List ℕ → Bool
-is_in n [] = false
-is_in n (m ∷ rest) = nat_eq m n || is_in n rest
+-- one of the first buckets holds the handle
+abbrev pub is_bucketed : Layout → List ℕ → ℕ → ℕ → Bool
+is_bucketed l words handle zero = false
+is_bucketed l words handle (suc place) = nat_eq (bucket l words place) handle || is_bucketed l words handle place
 
 -- the pair of two cells that there are
 abbrev pub paired : ℕ → Option CellTree → Option CellTree → Option CellTree
@@ -25,7 +25,7 @@ unfoldable pub cell_at : Layout → List ℕ → ℕ → ℕ → Option CellTree
 cell_at l words fuel zero = Some nil
 cell_at l words zero (suc row) = None
 cell_at l words (suc fuel) (suc row) = let c = content l words row in
-    cond (is_in (suc row) (take l.buckets words))
+    cond (is_bucketed l words (suc row) l.buckets)
     (cond (nat_eq c.tag 0) (Some (number (cast_signed w64 c.left))) (paired c.tag (cell_at l words fuel c.left) (cell_at l words fuel c.right))) None
 
 -- the cells of the first rows
@@ -54,6 +54,10 @@ standing v = record {
 -- no other cell than this one was noted as absent
 abbrev pub NotesOnly : View → View → CellTree → Type 0
 NotesOnly v w cell = (count : ℕ) × (w.learned.notes ≡ v.learned.notes ++ replicate count cell)
+
+-- a pass all of whose rows are used notes nothing where it answers a handle
+abbrev pub NotesNone : View → View → Result Handle Full → Type 0
+NotesNone v w answer = length v.owned.made ≡ v.owned.quota → IfOk answer (λ _. w.learned.notes ≡ v.learned.notes)
 
 -- where there is no row for the cell, it was noted as absent, and nothing else was
 abbrev pub IsNoted : View → View → CellTree → Result Handle Full → Type 0

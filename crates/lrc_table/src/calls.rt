@@ -4,7 +4,7 @@ ghost use Rattle.lrc_store.specs.Cells.{number, pair};
 ghost use Rattle.lrc_store.specs.Standing.{IsKnown, meant};
 ghost use Rattle.lrc_store.specs.Words.{Puts, Reads, Shows, Keeps, Grows};
 ghost use Rattle.lrc_table.specs.Passes.{IsOf};
-ghost use Rattle.lrc_table.specs.Standings.{standing, NotesOnly, IsNoted};
+ghost use Rattle.lrc_table.specs.Standings.{standing, NotesOnly, NotesNone, IsNoted};
 
 use crate::table::{Pass, Table};
 use lrc_rule::Content;
@@ -23,6 +23,7 @@ impl<M: Meaning> Pass<M> {
         ensures puts { Puts (standing self.old.view) (standing self.new.view) (number value) result }
         ensures notes { NotesOnly self.old.view self.new.view (number value) }
         ensures noted { IsNoted self.old.view self.new.view (number value) result }
+        ensures unnoted { NotesNone self.old.view self.new.view result }
         ensures memo_steps { self.new.view.learned.memo_steps ≡ self.old.view.learned.memo_steps }
     {
         let _rows = self.published();
@@ -55,6 +56,7 @@ impl<M: Meaning> Pass<M> {
         ensures puts { Puts (standing self.old.view) (standing self.new.view) (pair tag (meant (standing self.old.view) left.0) (meant (standing self.old.view) right.0)) result }
         ensures notes { NotesOnly self.old.view self.new.view (pair tag (meant (standing self.old.view) left.0) (meant (standing self.old.view) right.0)) }
         ensures noted { IsNoted self.old.view self.new.view (pair tag (meant (standing self.old.view) left.0) (meant (standing self.old.view) right.0)) result }
+        ensures unnoted { NotesNone self.old.view self.new.view result }
         ensures memo_steps { self.new.view.learned.memo_steps ≡ self.old.view.learned.memo_steps }
     {
         let _rows = self.published();

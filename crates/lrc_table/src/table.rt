@@ -1,6 +1,6 @@
 //! The table, its passes, and the steps that a pass makes.
 ghost use Rattle.std.specs.Prelude.{◌≡◌, ℕ, ◌+◌, ◌*◌, ◌<◌, ◌≤◌, ◌^◌, [], length, IfOk};
-ghost use Rattle.lrc_rule.specs.Layout.{IsLayout, memo_at};
+ghost use Rattle.lrc_rule.specs.Layout.{IsLayout, IsBucketOrPart, bucket_at};
 ghost use Rattle.lrc_rule.specs.Memo.{IsMemoPair, IsMemoWord, memo_load, memo_store, memo_clear};
 ghost use Rattle.lrc_rule.specs.Views.{now, next, opening_view};
 ghost use Rattle.lrc_rule.specs.Steps.{IsCurrent, Loads, Notes, Stores, Exchanges, Memoes, left_of, right_of};
@@ -27,7 +27,7 @@ pub struct Table<M: Meaning> {
 
 impl<M: Meaning> Model for Table<M> {
     ghost use Rattle.std.specs.Prelude.{◌≡◌};
-    ghost use Rattle.lrc_rule.specs.Layout.{IsLayout, word_count};
+    ghost use Rattle.lrc_rule.specs.Layout.{IsLayout, HasRoom};
     ghost use Rattle.lrc_store.specs.Standing.{IsSound};
     ghost use Rattle.lrc_table.specs.Standings.{standing};
     ghost use Rattle.lrc_table.specs.Passes.{TableView, coded_table_view};
@@ -38,7 +38,7 @@ impl<M: Meaning> Model for Table<M> {
 
     ghost view = { λ a. record { id = a.words.shared.table_id; layout = a.layout; meaning = a.words.shared.key.meaning } };
 
-    ghost invariant = { λ a. (a.words.shared.key.layout ≡ a.layout) × (a.words.shared.table_id.words ≡ word_count a.layout) × (a.words.shared.table_id.slots ≡ 0) × IsLayout a.layout };
+    ghost invariant = { λ a. (a.words.shared.key.layout ≡ a.layout) × HasRoom a.layout a.words.shared.table_id.words × (a.words.shared.table_id.slots ≡ 0) × IsLayout a.layout };
 }
 
 /// What one thread knows of a table, and the rows that it may still publish. Every call takes the
@@ -138,10 +138,10 @@ impl<M: Meaning> Pass<M> {
         Handle(self.first + self.count)
     }
 
-    /// Loads a word that is no memo word.
+    /// Loads a bucket or a part of a row.
     pub(crate) fn load(&mut self, table: &Table<M>, word: usize) -> u64
         requires of { IsOf self.old table.now }
-        requires word { word < memo_at table.now.layout 0 }
+        requires word { IsBucketOrPart table.now.layout word }
         ensures reads { Reads self.old self.new }
         ensures found { Loads self.old.view self.new.view word result }
     {
@@ -155,7 +155,7 @@ impl<M: Meaning> Pass<M> {
         requires place { place < table.now.layout.buckets }
         requires sought { IsSought self.old.view C.cell place }
         ensures table { self.new.table ≡ self.old.table }
-        ensures loads { Loads self.old.view self.new.view place result }
+        ensures loads { Loads self.old.view self.new.view (bucket_at self.new.view.layout place) result }
         ensures notes { Notes self.old.view self.new.view C.cell result }
         ensures small { result < 2 ^ 32 }
     {
@@ -189,7 +189,7 @@ impl<M: Meaning> Pass<M> {
         requires ready { IsReady self.old.view place }
         requires room { length self.old.view.owned.made < self.old.view.owned.quota }
         ensures table { self.new.table ≡ self.old.table }
-        ensures exchanges { Exchanges self.old.view self.new.view place result }
+        ensures exchanges { Exchanges self.old.view self.new.view (bucket_at self.new.view.layout place) result }
         ensures small { result < 2 ^ 32 }
     {
         let next = u64::from(self.first + self.count) + 1;
@@ -291,6 +291,7 @@ impl<M: Meaning> Pass<M> {
             meaning: _,
         } = other;
         table.words.shared.join_seat::<Meet>(&mut self.seat, seat);
-        let _ = table.words.shared.load::<Load>(&mut self.seat, 0);
+        let first = table.layout.bucket(0);
+        let _ = table.words.shared.load::<Load>(&mut self.seat, first);
     }
 }

@@ -3,6 +3,7 @@ use Rattle.lrc_store.specs.Cells.{CellTree, pair}
 use Rattle.lrc_store.specs.Standing.{meant, IsKnown}
 use Rattle.lrc_store.specs.Words.{Puts}
 use Rattle.lrc_table.specs.Standings.{standing}
+use Rattle.lrc_table.proofs.Probing.{Answers-unnoted}
 use Rattle.lrc_table.proofs.Stores.{puts, known_stands}
 use Rattle.lrc_table.proofs.table.Pass.cell.Goals as goal
 
@@ -24,3 +25,6 @@ returns-clause-puts g c =
     = (λ i. pair (c.from.ensures i) (meant (standing v) (c.from-2.ensures i)) (meant (standing v) (c.from-3.ensures i))) in
     subst (λ (cell : CellTree). Puts (standing v) (standing c.put.new.self.view) cell c.put.result) e
     (puts c.args.self.now c.put.new.self _ c.put.result c.published-rows.ensures.current c.published-rows.ensures.layout c.put.ensures.seeks c.put.ensures.answers)
+
+pub returns-clause-unnoted : goal.returns-clause-unnoted
+returns-clause-unnoted g c = Answers-unnoted c.args.self.now c.put.new.self _ c.put.result c.put.ensures.answers

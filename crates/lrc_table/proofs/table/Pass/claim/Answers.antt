@@ -1,5 +1,5 @@
-use Rattle.std.proofs.Common.{ap, sym, ◌∙◌, arith}
-use Rattle.lrc_table.proofs.Probing.{Claims-later, Seeks-loads, Seeks-trans, spent_at, path_later, named_by}
+use Rattle.std.proofs.Common.{length, ap, sym, ◌∙◌, arith}
+use Rattle.lrc_table.proofs.Probing.{Claims-later, full_unnoted, Seeks-loads, Seeks-trans, spent_at, path_later, named_by}
 use Rattle.lrc_table.proofs.table.Pass.claim.Goals as goal
 
 pub returns-then-found-ne0-clause-seeks : goal.returns-then-found-ne0-clause-seeks
@@ -10,7 +10,7 @@ pub returns-then-found-ne0-clause-claims : goal.returns-then-found-ne0-clause-cl
 returns-then-found-ne0-clause-claims g c = let b = c.load_bucket-found in
     let inside = c.requires.place in
     let e = ap (λ l. l.buckets) (b.ensures.loads.follows.layout ∙ c.requires.of.1) in
-    (named_by b.new.self.view c.args.place _ (omega (arith, inside, e)) b.ensures.loads.found c.if-found-ne0.true, b.ensures.loads.made)
+    (named_by b.new.self.view c.args.place _ (omega (arith, inside, e)) b.ensures.loads.found c.if-found-ne0.true, b.ensures.loads.made, λ _. full_unnoted c.args.self.now.view b.new.self.view _ _ b.ensures.notes c.if-found-ne0.true)
 
 pub returns-then-published-quota-clause-seeks : goal.returns-then-published-quota-clause-seeks
 returns-then-published-quota-clause-seeks g c = let b = c.load_bucket-found in
@@ -29,4 +29,5 @@ returns-clause-seeks g c = let b = c.load_bucket-found in
 
 pub returns-clause-claims : goal.returns-clause-claims
 returns-clause-claims g c = let b = c.load_bucket-found in
-    Claims-later c.args.self.now b.new.self c.publish.new.self _ c.args.place c.publish.result (Seeks-loads c.args.self.now b.new.self _ _ _ b.ensures.table b.ensures.loads b.ensures.notes) b.ensures.loads.made c.publish.ensures.claims
+    Claims-later c.args.self.now b.new.self c.publish.new.self _ c.args.place c.publish.result (Seeks-loads c.args.self.now b.new.self _ _ _ b.ensures.table b.ensures.loads b.ensures.notes) b.ensures.loads.made
+    (λ used. absurd (c.if-published-quota.false (c.published.ensures.count ∙ (ap length b.ensures.loads.made ∙ (used ∙ sym (c.quota.ensures ∙ b.ensures.loads.follows.quota)))))) c.publish.ensures.claims

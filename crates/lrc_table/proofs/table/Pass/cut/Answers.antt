@@ -2,7 +2,8 @@ use Rattle.std.proofs.Common.{◌+◌, ◌≤◌, length, ap, sym, arith, subst}
 use Rattle.lrc_rule.proofs.Keeping.{splits}
 use Rattle.lrc_rule.specs.Views.{View}
 use Rattle.lrc_table.specs.Passes.{PassView}
-use Rattle.lrc_table.proofs.Opened.{same_id, some_word}
+use Rattle.lrc_rule.proofs.Places.{some_word}
+use Rattle.lrc_table.proofs.Opened.{same_id}
 use Rattle.lrc_table.proofs.table.Pass.cut.Goals as goal
 
 pub split_seat-seat-requires : goal.split_seat-seat-requires

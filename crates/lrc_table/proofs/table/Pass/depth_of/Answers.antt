@@ -1,5 +1,6 @@
 use Rattle.std.proofs.Common.{◌-◌, ap, sym, ◌∙◌, arith}
 use Rattle.lrc_rule.proofs.Counts.{depth-le}
+use Rattle.lrc_table.proofs.Opened.{part_of}
 use Rattle.lrc_table.proofs.Follow.{Reads-refl, handle-le, part-later, loaded_part, depth_at, nil_at}
 use Rattle.lrc_table.proofs.table.Pass.depth_of.Goals as goal
 
@@ -21,6 +22,12 @@ part-requires-clause-row g c =
     let b = handle-le _ _ c.requires.current.table c.requires.known.0 _ c.requires.known.1 in
     let e = ap (λ l. l.rows) (c.layout-layout.ensures.value ∙ sym c.requires.of.1) in
     omega (arith, b, e, c.if-handle-eq0.false)
+
+pub load-requires-clause-word : goal.load-requires-clause-word
+load-requires-clause-word g c =
+    let b = handle-le _ _ c.requires.current.table c.requires.known.0 _ c.requires.known.1 in
+    let e = ap (λ l. l.rows) (c.layout-layout.ensures.value ∙ sym c.requires.of.1) in
+    part_of _ _ (c.args.handle - 1) 3 _ (sym c.layout-layout.ensures.value) (omega (arith, b, e, c.if-handle-eq0.false)) (omega arith) c.part.ensures.index
 
 deep : goal.returns-clause-depth
 deep g c cell h =

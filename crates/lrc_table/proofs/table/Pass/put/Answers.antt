@@ -43,7 +43,7 @@ returns-in-Some-clause-seeks g c = let t = c.loop-steps.invariant in
 
 pub returns-in-Some-clause-answers : goal.returns-in-Some-clause-answers
 returns-in-Some-clause-answers g c = let t = c.loop-steps.invariant in
-    Answers-later c.args.self.now c.loop-steps.self c.try_place.new.self _ c.in-Some.answer t.seeks t.made c.in-Some.ensures.answers
+    Answers-later c.args.self.now c.loop-steps.self c.try_place.new.self _ c.in-Some.answer t.seeks t.made t.unnoted c.in-Some.ensures.answers
 
 pub unreachable-requires : goal.unreachable-requires
 unreachable-requires g c =
