@@ -27,7 +27,7 @@ names_not_other call word n outcome some small h = n (call-of call outcome word 
 -- ---- nothing is found
 
 pub missed_stays : (s : Standing) (p q : PassView) (n m : ℕ) (i j : List ℕ) → q ≡ p → j ≡ i → Stays s (with_own (standing p.view) n i) → Stays s (with_own (standing q.view) m j)
-missed_stays s p q n m i j e f h = subst (λ (x : PassView). Stays s (with_own (standing x.view) m j)) (sym e) (stays_with s (with_own (standing p.view) n i) s.missed m s.identity j (f ∙ h.identity) h)
+missed_stays s p q n m i j e f h = subst (λ (x : PassView). Stays s (with_own (standing x.view) m j)) (sym e) (stays_with s (with_own (standing p.view) n i) s.missed m s.identity j (f ∙ h.lasts.identity) h)
 
 pub misses : (s : Standing) (w : View) (m k : ℕ) (i : List ℕ) (call : CellTree) → s.memo ≡ None → m ≡ s.missed → k ≡ min (m + 1) (2 ^ 64 - 1) → Misses s (with_own (standing w) k i) call
 misses s w m k i call no_memo e h = record { missing = subst (λ o. Told o (λ pairs. ¬ IsRemembered pairs call)) (sym no_memo) tt; missed = h ∙ ap (λ x. min (x + 1) (2 ^ 64 - 1)) e }
@@ -55,7 +55,7 @@ finds allows reach s w m i call outcome word no_memo r k h names = ⊎_elim
     let few = p.small in
     let e : p.call ≡ call = omega (arith, same, small, few) in
     let f : p.outcome ≡ outcome = omega (arith, same, small, few) in
-    find allows reach s w m i call outcome _ (kept-meant s (with_own (standing w) m i) call r.stays.known k) r.missed no_memo
+    find allows reach s w m i call outcome _ (kept-meant s (with_own (standing w) m i) call r.stays.lasts.known k) r.missed no_memo
     (subst (λ x. Tells (standing w) x (meant (standing w) x)) f p.tells)
     (subst (λ (x : ℕ × ℕ). allows (meant (standing w) x.0) (meant (standing w) x.1)) (λ i. (e i, f i)) p.allowed)
     (subst (λ (x : ℕ × ℕ). Told (standing w).seen (IsWithin (reach (meant (standing w) x.0) (meant (standing w) x.1)))) (λ i. (e i, f i)) p.reached))

@@ -5,6 +5,7 @@ use Rattle.std.specs.Prelude.{slice_get, unwrap_or, Result, Ok, Err, IfOk, OnErr
 use Rattle.lrc_store.specs.Cells.{CellTree, nil, pair, IsWithin}
 use Rattle.lrc_store.specs.Standing.{IsRemembered}
 use Rattle.lrc_store.specs.Words.{Puts, Shows}
+use Rattle.lrc_store.proofs.Lasting.{once-made}
 use Rattle.lrc_store.specs.declared.cells.Cell.{Cell}
 use Rattle.lrc_store.specs.declared.cells.Cell.TheVariants as cell
 use Rattle.lrc_store.specs.declared.cells.Handle.{Handle}
@@ -56,12 +57,14 @@ pub puts : (s t : Shelf) (c : CellTree) (outcomes : List ℕ) (missed : ℕ) (an
     t.quota ≡ s.quota → IsShelf t → IfOk answer (λ handle. IsPlaced s t c handle.0) → OnErr answer (IsFullOf s t c) →
     Puts (standing s outcomes missed) (standing t outcomes missed) c answer
 puts s t c outcomes missed (Ok handle) rest known quota k ok err = record {
-  adds = adds s t c outcomes missed rest known quota (grown s t c (Ok handle) ok err);
+  adds = adds s t c outcomes missed rest known quota k (grown s t c (Ok handle) ok err);
+  once = once-made (standing s outcomes missed) (standing t outcomes missed) c (grown s t c (Ok handle) ok err);
   ok = tells t handle.0 c outcomes missed k ok.within ok.stands;
   full = err;
 }
 puts s t c outcomes missed (Err e) rest known quota k ok err = record {
-  adds = adds s t c outcomes missed rest known quota (inl err.cells);
+  adds = adds s t c outcomes missed rest known quota k (inl err.cells);
+  once = once-made (standing s outcomes missed) (standing t outcomes missed) c (inl err.cells);
   ok = ok;
   full = full t c outcomes missed (let P : List CellTree → Type 0 = λ cells. ¬ IsNamed cells c in subst P (sym err.cells) err.unnamed) (ap length err.cells ∙ err.used ∙ sym quota);
 }

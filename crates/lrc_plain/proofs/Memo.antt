@@ -4,7 +4,7 @@ use Rattle.std.specs.Prelude.{slice_get, slice_set, unwrap_or}
 use Rattle.std.proofs.lemmas.List.{length-set, set-get_or, get_or-set_same, get_or-set_other}
 use Rattle.lrc_store.specs.Cells.{CellTree, nil, IsWithin}
 use Rattle.lrc_store.specs.Standing.{IsRemembered}
-use Rattle.lrc_store.specs.Words.{Finds, Gains}
+use Rattle.lrc_store.specs.Words.{Finds, GainsPair}
 use Rattle.lrc_plain.specs.Shelf.{Shelf, at, IsShelf}
 use Rattle.lrc_plain.specs.Plain.{Plain, pairs, standing, outcome, IsMemo}
 use Rattle.lrc_plain.proofs.Standings.{known-within, meant-at, tells}
@@ -142,9 +142,9 @@ inserted all (c ∷ cells) (suc o ∷ outcomes) (suc i) handle h l z n =
 gains-suc : (allows : CellTree → CellTree → Type 0) (reach : CellTree → CellTree → List CellTree) (s : Shelf) (outcomes : List ℕ) (i handle : ℕ) →
     ((call one other : CellTree) → allows call one → allows call other → one ≡ other) →
     IsMemo allows reach s outcomes → IsGiven allows reach s (suc i) handle →
-    Gains (pairs s.cells s.cells outcomes) (pairs s.cells s.cells (slice_set outcomes i handle)) (at s.cells (suc i)) (at s.cells handle)
+    GainsPair (pairs s.cells s.cells outcomes) (pairs s.cells s.cells (slice_set outcomes i handle)) (at s.cells (suc i)) (at s.cells handle)
 gains-suc allows reach s outcomes i handle single m g = over (decide (get_or outcomes i 0) 0) where
-  over : (get_or outcomes i 0 ≡ 0) ⊎ (get_or outcomes i 0 ≢ 0) → Gains (pairs s.cells s.cells outcomes) (pairs s.cells s.cells (slice_set outcomes i handle)) (at s.cells (suc i)) (at s.cells handle)
+  over : (get_or outcomes i 0 ≡ 0) ⊎ (get_or outcomes i 0 ≢ 0) → GainsPair (pairs s.cells s.cells outcomes) (pairs s.cells s.cells (slice_set outcomes i handle)) (at s.cells (suc i)) (at s.cells handle)
   over (inl z) = inr (missing s outcomes (suc i) m.shelf g.call_known z, inserted s.cells s.cells outcomes i handle (omega (arith, g.call_known)) (omega (arith, g.call_known, m.room, m.shelf.within)) z g.filled)
   over (inr o) =
       let same : get_or outcomes i 0 ≡ handle = m.shelf.distinct (get_or outcomes i 0) handle (m.known i (omega (arith, g.call_known, m.room, m.shelf.within))) g.handle_known (single _ _ _ (m.allowed (suc i) g.call_known o) g.allowed) in
@@ -155,11 +155,11 @@ gains-suc allows reach s outcomes i handle single m g = over (decide (get_or out
 pub gains : (allows : CellTree → CellTree → Type 0) (reach : CellTree → CellTree → List CellTree) (s : Shelf) (outcomes : List ℕ) (call handle : ℕ) →
     ((call one other : CellTree) → allows call one → allows call other → one ≡ other) →
     IsMemo allows reach s outcomes → IsGiven allows reach s call handle →
-    Gains (pairs s.cells s.cells outcomes) (pairs s.cells s.cells (slice_set outcomes (call - 1) handle)) (at s.cells call) (at s.cells handle)
+    GainsPair (pairs s.cells s.cells outcomes) (pairs s.cells s.cells (slice_set outcomes (call - 1) handle)) (at s.cells call) (at s.cells handle)
 gains allows reach s outcomes zero handle single m g = absurd (omega (arith, g.some))
 gains allows reach s outcomes (suc i) handle single m g =
     let e : i ≡ suc i - 1 = omega arith in
-    let P : ℕ → Type 0 = λ k. Gains (pairs s.cells s.cells outcomes) (pairs s.cells s.cells (slice_set outcomes k handle)) (at s.cells (suc i)) (at s.cells handle) in
+    let P : ℕ → Type 0 = λ k. GainsPair (pairs s.cells s.cells outcomes) (pairs s.cells s.cells (slice_set outcomes k handle)) (at s.cells (suc i)) (at s.cells handle) in
     subst P e (gains-suc allows reach s outcomes i handle single m g)
 
 given-at : (allows : CellTree → CellTree → Type 0) (reach : CellTree → CellTree → List CellTree) (s : Shelf) (call handle : ℕ) →
@@ -195,12 +195,12 @@ given {M} allows reach v now call handle e filled kc kh a r =
 pub gains-seen : {M : Type 0} (allows : M → CellTree → CellTree → Type 0) (reach : M → CellTree → CellTree → List CellTree) (v now : Plain M) (call handle : ℕ) → v ≡ now →
     ((m : M) (call one other : CellTree) → allows m call one → allows m call other → one ≡ other) →
     IsMemo (allows v.meaning) (reach v.meaning) v.shelf v.outcomes → IsGiven (allows v.meaning) (reach v.meaning) v.shelf call handle →
-    Gains (pairs now.shelf.cells now.shelf.cells now.outcomes) (pairs v.shelf.cells v.shelf.cells (slice_set v.outcomes (call - 1) handle)) (meant_in now.shelf.cells call) (meant_in now.shelf.cells handle)
+    GainsPair (pairs now.shelf.cells now.shelf.cells now.outcomes) (pairs v.shelf.cells v.shelf.cells (slice_set v.outcomes (call - 1) handle)) (meant_in now.shelf.cells call) (meant_in now.shelf.cells handle)
 gains-seen {M} allows reach v now call handle e single m g =
     let before = pairs v.shelf.cells v.shelf.cells v.outcomes in
     let after = pairs v.shelf.cells v.shelf.cells (slice_set v.outcomes (call - 1) handle) in
-    let P : Plain M → Type 0 = λ n. Gains (pairs n.shelf.cells n.shelf.cells n.outcomes) after (meant_in n.shelf.cells call) (meant_in n.shelf.cells handle) in
+    let P : Plain M → Type 0 = λ n. GainsPair (pairs n.shelf.cells n.shelf.cells n.outcomes) after (meant_in n.shelf.cells call) (meant_in n.shelf.cells handle) in
     subst P e
-    (subst (λ (x : CellTree). Gains before after x (meant_in v.shelf.cells handle)) (sym (meant-at v.shelf.cells call g.call_known))
-    (subst (λ (y : CellTree). Gains before after (at v.shelf.cells call) y) (sym (meant-at v.shelf.cells handle g.handle_known))
+    (subst (λ (x : CellTree). GainsPair before after x (meant_in v.shelf.cells handle)) (sym (meant-at v.shelf.cells call g.call_known))
+    (subst (λ (y : CellTree). GainsPair before after (at v.shelf.cells call) y) (sym (meant-at v.shelf.cells handle g.handle_known))
     (gains (allows v.meaning) (reach v.meaning) v.shelf v.outcomes call handle (single v.meaning) m g)))

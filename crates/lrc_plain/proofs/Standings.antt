@@ -5,11 +5,12 @@ use Rattle.std.proofs.lemmas.Option.{slice_get-get_or, slice_get_within, get_or_
 use Rattle.std.specs.Prelude.{slice_get, unwrap_or}
 use Rattle.lrc_store.specs.Cells.{CellTree, nil, IsWithin}
 use Rattle.lrc_store.specs.Standing.{IsSound, IsMap}
-use Rattle.lrc_store.specs.Words.{Adds, Tells, IsFullFor}
+use Rattle.lrc_store.specs.Words.{Lasts, Stays, Adds, Tells, IsFullFor}
 use Rattle.lrc_store.proofs.Blocks.{no_blocks-paid}
 use Rattle.lrc_store.proofs.Known.{some_meant}
+use Rattle.lrc_store.proofs.Lasting.{quota-same, adds-one}
 use Rattle.lrc_plain.specs.Shelf.{Shelf, at, IsNamed, IsShelf}
-use Rattle.lrc_plain.specs.Plain.{pairs, standing}
+use Rattle.lrc_plain.specs.Plain.{Plain, pairs, standing, state_of}
 use Rattle.lrc_plain.proofs.RowLemmas.{at-push}
 use Rattle.lrc_plain.proofs.Lists.{at-contained, named-contained, named-cases, parts-held, no_repeats, row-of_pair, pairs-push}
 
@@ -88,23 +89,39 @@ pairs-grown : (s t : Shelf) (c : CellTree) (outcomes : List ℕ) →
 pairs-grown s t c outcomes rest known (inl e) = ap (λ cells. pairs cells cells outcomes) e
 pairs-grown s t c outcomes rest known (inr e) = ap (λ cells. pairs cells cells outcomes) e ∙ pairs-push s.cells s.cells c outcomes rest known
 
+-- what lasts, as rows are only added
+lasts : (s t : Shelf) (c : CellTree) (outcomes others : List ℕ) (missed more : ℕ) → t.quota ≡ s.quota → IsShelf t → IsGrown s t c → Lasts (standing s outcomes missed) (standing t others more)
+lasts s t c outcomes others missed more quota k grown = record {
+  known = keeps s t c grown;
+  seen = seen-grows s t c grown;
+  quota = quota-same (standing s outcomes missed) (standing t others more) refl quota refl refl;
+  meets = refl;
+  lives = refl;
+  identity = refl;
+  sound = λ _. sound t others more k;
+}
+
 -- what a store stands for after a cell was put into its rows
 pub adds : (s t : Shelf) (c : CellTree) (outcomes : List ℕ) (missed : ℕ) →
     ((i : ℕ) → length s.cells ≤ i → i < length outcomes → get_or outcomes i 0 ≡ 0) →
     ((i : ℕ) → i < length outcomes → get_or outcomes i 0 ≤ length s.cells) →
-    t.quota ≡ s.quota → IsGrown s t c → Adds (standing s outcomes missed) (standing t outcomes missed) c
-adds s t c outcomes missed rest known quota grown = record {
-  known = keeps s t c grown;
-  seen = seen-grows s t c grown;
-  made = grown;
-  drawn = inl refl;
-  quota = record { pooled = refl; at_most = omega (arith, quota); fixed = λ _. quota; till_dry = λ _. quota; dry = λ e. e; blocks = omega arith };
-  meets = refl;
-  lives = refl;
-  memo = ap (λ m. Some m) (pairs-grown s t c outcomes rest known grown);
-  missed = refl;
-  identity = refl;
-}
+    t.quota ≡ s.quota → IsShelf t → IsGrown s t c → Adds (standing s outcomes missed) (standing t outcomes missed) (c ∷ [])
+adds s t c outcomes missed rest known quota k grown =
+    adds-one (standing s outcomes missed) (standing t outcomes missed) c (lasts s t c outcomes outcomes missed missed quota k grown) grown refl
+    (ap (λ m. Some m) (pairs-grown s t c outcomes rest known grown)) refl
+
+-- where no row is made, what is kept of calls and the misses may change
+pub stays : {M : Type 0} (v now : Plain M) (others : List ℕ) (more : ℕ) → v ≡ now → IsShelf v.shelf → Stays (state_of now) (standing v.shelf others more)
+stays {M} v now others more e k =
+    let P : Plain M → Type 0 = λ n. Stays (state_of n) (standing v.shelf others more) in
+    subst P e (record {
+      lasts = lasts v.shelf v.shelf nil v.outcomes others v.missed more refl k (inl refl);
+      made = refl;
+      drawn = refl;
+      quota = refl;
+      blocks = refl;
+      dry = refl;
+    })
 
 pub tells : (t : Shelf) (handle : ℕ) (c : CellTree) (outcomes : List ℕ) (missed : ℕ) → IsShelf t → handle ≤ length t.cells → at t.cells handle ≡ c →
     Tells (standing t outcomes missed) handle c

@@ -1,7 +1,7 @@
 -- What the calls of a store do to what it stands for.
 use Rattle.std.specs.Prelude.{ℕ, ◌≡◌, ◌⊎◌, ◌+◌, ◌≤◌, ◌^◌, ◌-◌, min, true, false, List, [], ◌∷◌, ◌++◌, length, Option, Some, None, Contains, Result, IfOk, OnErr}
 use Rattle.lrc_store.specs.Cells.{CellTree, nil, number, pair, HoldsParts, IsWithin}
-use Rattle.lrc_store.specs.Standing.{Standing, Stands, IsKnown, IsHeld, meant, Told, IsRemembered}
+use Rattle.lrc_store.specs.Standing.{Standing, Stands, IsKnown, IsHeld, IsSound, meant, Told, IsRemembered}
 use Rattle.lrc_store.specs.declared.cells.Cell.{Cell}
 use Rattle.lrc_store.specs.declared.cells.Cell.TheVariants as cell
 use Rattle.lrc_store.specs.declared.cells.Handle.{Handle}
@@ -30,23 +30,24 @@ pub record KeepsQuota (s t : Standing) : Type 0 where
   pub dry : s.dry ≡ true → t.dry ≡ true
   pub blocks : s.blocks ≤ t.blocks
 
--- rows were drawn for no cell or for this one
-abbrev pub Draws : Standing → Standing → CellTree → Type 0
-Draws s t cell = (t.drawn ≡ s.drawn) ⊎ (t.drawn ≡ Some cell)
-
--- only known handles and the cells that are in the store for good may grow, and the memo and the misses are another matter
-pub record Stays (s t : Standing) : Type 0 where
+-- what lasts from a store before to after: what is known, what is in it for good, whose it is, and that it is sound
+pub record Lasts (s t : Standing) : Type 0 where
   pub known : Keeps s t
   pub seen : Grows s.seen t.seen
-  pub made : t.made ≡ s.made
-  pub drawn : t.drawn ≡ s.drawn
-  pub pooled : t.pooled ≡ s.pooled
-  pub quota : t.quota ≡ s.quota
-  pub blocks : t.blocks ≡ s.blocks
+  pub quota : KeepsQuota s t
   pub meets : t.meets ≡ s.meets
   pub lives : t.lives ≡ s.lives
-  pub dry : t.dry ≡ s.dry
   pub identity : t.identity ≡ s.identity
+  pub sound : IsSound s → IsSound t
+
+-- no row was made or drawn; the memo and the misses are another matter
+pub record Stays (s t : Standing) : Type 0 where
+  pub lasts : Lasts s t
+  pub made : t.made ≡ s.made
+  pub drawn : t.drawn ≡ s.drawn
+  pub quota : t.quota ≡ s.quota
+  pub blocks : t.blocks ≡ s.blocks
+  pub dry : t.dry ≡ s.dry
 
 -- the store was only read
 pub record Reads (s t : Standing) : Type 0 where
@@ -54,18 +55,25 @@ pub record Reads (s t : Standing) : Type 0 where
   pub memo : t.memo ≡ s.memo
   pub missed : t.missed ≡ s.missed
 
--- the store gained at most the row of this cell
-pub record Adds (s t : Standing) (cell : CellTree) : Type 0 where
-  pub known : Keeps s t
-  pub seen : Grows s.seen t.seen
-  pub made : (t.made ≡ s.made) ⊎ (t.made ≡ s.made ++ cell ∷ [])
-  pub drawn : Draws s t cell
-  pub quota : KeepsQuota s t
-  pub meets : t.meets ≡ s.meets
-  pub lives : t.lives ≡ s.lives
+-- rows of these cells were made at the end, and no others
+abbrev pub Makes : List CellTree → List CellTree → List CellTree → Type 0
+Makes before after cells = (rows : List CellTree) × (after ≡ before ++ rows) × IsWithin rows cells
+
+-- rows were drawn for none of these cells or for one of them
+abbrev pub Draws : Option CellTree → Option CellTree → List CellTree → Type 0
+Draws before after cells = (after ≡ before) ⊎ ((cell : CellTree) × Contains cells cell × (after ≡ Some cell))
+
+-- the store gained at most rows of these cells; the memo and the misses are another matter
+pub record Gains (s t : Standing) (cells : List CellTree) : Type 0 where
+  pub lasts : Lasts s t
+  pub made : Makes s.made t.made cells
+  pub drawn : Draws s.drawn t.drawn cells
+
+-- the store gained at most rows of these cells
+pub record Adds (s t : Standing) (cells : List CellTree) : Type 0 where
+  pub gains : Gains s t cells
   pub memo : t.memo ≡ s.memo
   pub missed : t.missed ≡ s.missed
-  pub identity : t.identity ≡ s.identity
 
 -- the handle stands for the cell, and the cell's parts are in the store for good
 pub record Tells (s : Standing) (handle : ℕ) (cell : CellTree) : Type 0 where
@@ -78,9 +86,14 @@ pub record IsFullFor (s : Standing) (cell : CellTree) : Type 0 where
   pub unknown : ¬ IsHeld s cell
   pub unseen : Told s.seen (λ seen. ¬ Contains seen cell)
 
--- what a call answers that puts a cell into the store
+-- all rows are used, and one of these cells is in none that is known
+abbrev pub LacksOne : Standing → List CellTree → Type 0
+LacksOne s cells = (cell : CellTree) × Contains cells cell × IsFullFor s cell
+
+-- what a call answers that puts a cell into the store: at most its row is gained, and that once
 pub record Puts (s t : Standing) (cell : CellTree) (answer : Result Handle Full) : Type 0 where
-  pub adds : Adds s t cell
+  pub adds : Adds s t (cell ∷ [])
+  pub once : length t.made ≤ length s.made + 1
   pub ok : IfOk answer (λ handle. Tells t handle.0 cell)
   pub full : OnErr answer (IsFullFor t cell)
 
@@ -109,14 +122,14 @@ Recalls allows reach s t call (recall.Found handle) = Finds allows reach s t cal
 Recalls allows reach s t call (recall.Missed word) = Misses s t call
 
 -- the pairs gained this one, at some place, or have it already
-abbrev pub Gains : List (CellTree × CellTree) → List (CellTree × CellTree) → CellTree → CellTree → Type 0
-Gains before after call outcome =
+abbrev pub GainsPair : List (CellTree × CellTree) → List (CellTree × CellTree) → CellTree → CellTree → Type 0
+GainsPair before after call outcome =
     ((Contains before (call, outcome)) × (after ≡ before))
     ⊎ ((¬ IsRemembered before call) × ((left : List (CellTree × CellTree)) × (right : List (CellTree × CellTree)) × (before ≡ left ++ right) × (after ≡ left ++ (call, outcome) ∷ right)))
 
 -- where the memo is told, it gains the pair
 abbrev pub Remembers : Option (List (CellTree × CellTree)) → Option (List (CellTree × CellTree)) → CellTree → CellTree → Type 0
 Remembers None None call outcome = Unit {0}
-Remembers (Some before) (Some after) call outcome = Gains before after call outcome
+Remembers (Some before) (Some after) call outcome = GainsPair before after call outcome
 Remembers None (Some after) call outcome = ⊥
 Remembers (Some before) None call outcome = ⊥

@@ -16,18 +16,14 @@ use Rattle.lrc_table.specs.Memo.{IsKnownPair, IsKnownWord}
 use Rattle.lrc_table.proofs.Opened.{noted-current}
 use Rattle.lrc_table.proofs.Follow.{handle-le}
 use Rattle.lrc_table.proofs.Standings.{known-from}
-use Rattle.lrc_table.proofs.Stores.{keeps, seen-grows, seen-from, seen-to, seen-parts, known_stands, stands_known, nil_meant}
+use Rattle.lrc_table.proofs.Stores.{follows_reads, seen-from, seen-to, seen-parts, known_stands, stands_known, nil_meant}
 
 pub IsOf-memoes : {M : Type 0} (p q : PassView) (t : TableView M) (entry : MemoStep) → q.table ≡ p.table → Memoes p.view q.view entry → IsOf p t → IsOf q t
 IsOf-memoes p q t entry e m h = (e ∙ h.0, m.follows.layout ∙ h.1)
 
 -- to callers it is only read
-pub memo_reads : (v w : View) (entry : MemoStep) → IsCurrent v → Memoes v w entry → StoreReads (standing v) (standing w)
-memo_reads v w entry c m = let d = noted-current v entry c in record {
-  stays = record { known = keeps (noting v entry) w d m.follows; seen = seen-grows (noting v entry) w d m.follows; made = m.made; drawn = refl; pooled = refl; quota = m.follows.quota; blocks = refl; meets = refl; lives = refl; dry = refl; identity = refl };
-  memo = refl;
-  missed = refl;
-}
+pub memo_reads : (v w : View) (entry : MemoStep) → IsCurrent v → IsLayout v.layout → Memoes v w entry → StoreReads (standing v) (standing w)
+memo_reads v w entry c layout m = follows_reads (noting v entry) w (noted-current v entry c) layout m.follows m.made
 
 -- ---- from rows to known handles
 

@@ -1,17 +1,18 @@
 -- What the calls of a pass do, in the words of a store.
 use Rattle.std.proofs.lemmas.List.Elements.{Contains-append_left, Contains-append_right, Contains-append_cases}
-use Rattle.std.proofs.Common.{◌≡◌, ◌≢◌, inl, ⊎_elim, ℕ, ℤ, zero, suc, ◌-◌, ◌<◌, ◌≤◌, List, [], ◌∷◌, ◌++◌, refl, sym, ◌∙◌, ap, subst, arith}
+use Rattle.std.proofs.Common.{◌≡◌, ◌≢◌, ⊎_elim, ℕ, ℤ, zero, suc, ◌-◌, ◌<◌, ◌≤◌, List, [], ◌∷◌, ◌++◌, refl, sym, ◌∙◌, ap, subst, arith}
 use Rattle.std.specs.Prelude.{Option, Some, None, unwrap_or, Contains, option_to_list, Result, Ok, Err, IfOk, OnErr, slice_index_or}
 use Rattle.std.specs.Int.{cast_signed, cast_unsigned, w64}
 use mathlib.Core.Logic.{dite}
 use native.Mathlib.Decide.{ℕ_discrete}
 use Rattle.lrc_store.specs.Cells.{CellTree, nil, number, pair, parts, HoldsParts, IsWithin}
 use Rattle.lrc_store.specs.Standing.{IsSound, IsKnown, HasNoRepeats, meant}
-use Rattle.lrc_store.specs.Words.{Keeps, Puts, Tells, IsFullFor, Reads as StoreReads}
+use Rattle.lrc_store.specs.Words.{Keeps, Lasts, Puts, Tells, IsFullFor, Reads as StoreReads}
 use Rattle.lrc_store.specs.declared.cells.Handle.{Handle}
 use Rattle.lrc_store.specs.declared.stores.Full.{Full}
 use Rattle.lrc_store.proofs.Blocks.{no_blocks-paid}
 use Rattle.lrc_store.proofs.Known.{some_meant, is_some_from}
+use Rattle.lrc_store.proofs.Lasting.{quota-same, adds-one, once-made}
 use Rattle.lrc_rule.specs.declared.layout.Content.{Content}
 use Rattle.lrc_rule.specs.declared.layout.Layout.{Layout}
 use Rattle.lrc_rule.specs.Layout.{IsLayout}
@@ -91,51 +92,6 @@ module _ (l : Layout) (words : List ℕ) (t : IsTable l words) where
   pub seen-parts : (cell : CellTree) (handle : ℕ) → Stands l words cell handle → HoldsParts (cells_below l words l.rows) cell
   seen-parts cell handle h part c = let p = part_stands cell part handle h c in seen-from part p.0 p.1.0 p.1.1
 
--- ---- what a pass stands for
-
-pub keeps : (v w : View) → IsCurrent v → Follows v w → Keeps (standing v) (standing w)
-keeps v w c f handle cell e = known-from w.layout (now w) f.current.table cell handle (Stands-later v w cell handle c f (known-to v.layout (now v) c.table cell handle e))
-
-pub seen-grows : (v w : View) → IsCurrent v → Follows v w → IsWithin (cells_below v.layout (now v) v.layout.rows) (cells_below w.layout (now w) w.layout.rows)
-seen-grows v w c f cell h = let s = seen-to v.layout (now v) c.table cell h in seen-from w.layout (now w) f.current.table cell s.0 (Stands-later v w cell s.0 c f s.1.0) s.1.1
-
-pub puts : (p q : PassView) (cell : CellTree) (answer : Result Handle Full) → IsCurrent p.view → Seeks p q cell → Answers p q cell answer → Puts (standing p.view) (standing q.view) cell answer
-puts p q cell answer c s a = let f = s.follows in let w = q.view in record {
-  adds = record {
-    known = keeps p.view w c f;
-    seen = seen-grows p.view w c f;
-    made = s.made;
-    drawn = inl refl;
-    quota = record { pooled = refl; at_most = (let e = f.quota in omega (arith, e)); fixed = λ _. f.quota; till_dry = λ _. f.quota; dry = λ e. e; blocks = omega arith };
-    meets = refl;
-    lives = refl;
-    memo = refl;
-    missed = refl;
-    identity = refl;
-  };
-  ok = by_ok answer a.0;
-  full = by_full answer a.1;
-}
-  where
-    by_ok : (r : Result Handle Full) → IfOk r (λ handle. StandsFor q handle cell × IsUnnoted p q) → IfOk r (λ handle. Tells (standing q.view) handle.0 cell)
-    by_ok (Ok handle) h = record { stands = known-from q.view.layout (now q.view) s.follows.current.table cell handle.0 h.0; seen = seen-parts q.view.layout (now q.view) s.follows.current.table cell handle.0 h.0 }
-    by_ok (Err full) h = tt
-
-    by_full : (r : Result Handle Full) → OnErr r (IsSpentFor p q cell) → OnErr r (IsFullFor (standing q.view) cell)
-    by_full (Ok handle) h = tt
-    by_full (Err full) h = record {
-      used = h.used;
-      unknown = λ e. h.absent e.0 (known-to q.view.layout (now q.view) s.follows.current.table cell e.0 e.1);
-      unseen = λ e. let x = seen-to q.view.layout (now q.view) s.follows.current.table cell e in h.absent x.0 x.1.0;
-    }
-
-pub store_reads : (p q : PassView) → IsCurrent p.view → Reads p q → StoreReads (standing p.view) (standing q.view)
-store_reads p q c r = record {
-  stays = record { known = keeps p.view q.view c r.follows; seen = seen-grows p.view q.view c r.follows; made = r.made; drawn = refl; pooled = refl; quota = r.follows.quota; blocks = refl; meets = refl; lives = refl; dry = refl; identity = refl };
-  memo = refl;
-  missed = refl;
-}
-
 -- ---- known handles
 
 pub known_stands : (v : View) → IsCurrent v → (handle : ℕ) → IsKnown (standing v) handle → Stands v.layout (now v) (meant (standing v) handle) handle
@@ -183,6 +139,61 @@ sound v c layout = let l = v.layout in let words = now v in let t = c.table in r
   memo_map = tt;
   memo_seen = tt;
 }
+
+-- ---- what a pass stands for
+
+pub keeps : (v w : View) → IsCurrent v → Follows v w → Keeps (standing v) (standing w)
+keeps v w c f handle cell e = known-from w.layout (now w) f.current.table cell handle (Stands-later v w cell handle c f (known-to v.layout (now v) c.table cell handle e))
+
+pub seen-grows : (v w : View) → IsCurrent v → Follows v w → IsWithin (cells_below v.layout (now v) v.layout.rows) (cells_below w.layout (now w) w.layout.rows)
+seen-grows v w c f cell h = let s = seen-to v.layout (now v) c.table cell h in seen-from w.layout (now w) f.current.table cell s.0 (Stands-later v w cell s.0 c f s.1.0) s.1.1
+
+-- what lasts where no row comes from a pool
+lasts : (v w : View) → Keeps (standing v) (standing w) → IsWithin (cells_below v.layout (now v) v.layout.rows) (cells_below w.layout (now w) w.layout.rows) → w.owned.quota ≡ v.owned.quota → IsCurrent w → IsLayout w.layout
+    → Lasts (standing v) (standing w)
+lasts v w known seen quota c layout = record {
+  known = known;
+  seen = seen;
+  quota = quota-same (standing v) (standing w) refl quota refl refl;
+  meets = refl;
+  lives = refl;
+  identity = refl;
+  sound = λ _. sound w c layout;
+}
+
+follows_lasts : (v w : View) → IsCurrent v → IsLayout v.layout → Follows v w → Lasts (standing v) (standing w)
+follows_lasts v w c layout f = lasts v w (keeps v w c f) (seen-grows v w c f) f.quota f.current (subst IsLayout (sym f.layout) layout)
+
+-- where no row was made, the store was only read
+pub follows_reads : (v w : View) → IsCurrent v → IsLayout v.layout → Follows v w → w.owned.made ≡ v.owned.made → StoreReads (standing v) (standing w)
+follows_reads v w c layout f made = record {
+  stays = record { lasts = follows_lasts v w c layout f; made = made; drawn = refl; quota = f.quota; blocks = refl; dry = refl };
+  memo = refl;
+  missed = refl;
+}
+
+pub puts : (p q : PassView) (cell : CellTree) (answer : Result Handle Full) → IsCurrent p.view → IsLayout p.view.layout → Seeks p q cell → Answers p q cell answer → Puts (standing p.view) (standing q.view) cell answer
+puts p q cell answer c layout s a = record {
+  adds = adds-one (standing p.view) (standing q.view) cell (follows_lasts p.view q.view c layout s.follows) s.made refl refl refl;
+  once = once-made (standing p.view) (standing q.view) cell s.made;
+  ok = by_ok answer a.0;
+  full = by_full answer a.1;
+}
+  where
+    by_ok : (r : Result Handle Full) → IfOk r (λ handle. StandsFor q handle cell × IsUnnoted p q) → IfOk r (λ handle. Tells (standing q.view) handle.0 cell)
+    by_ok (Ok handle) h = record { stands = known-from q.view.layout (now q.view) s.follows.current.table cell handle.0 h.0; seen = seen-parts q.view.layout (now q.view) s.follows.current.table cell handle.0 h.0 }
+    by_ok (Err full) h = tt
+
+    by_full : (r : Result Handle Full) → OnErr r (IsSpentFor p q cell) → OnErr r (IsFullFor (standing q.view) cell)
+    by_full (Ok handle) h = tt
+    by_full (Err full) h = record {
+      used = h.used;
+      unknown = λ e. h.absent e.0 (known-to q.view.layout (now q.view) s.follows.current.table cell e.0 e.1);
+      unseen = λ e. let x = seen-to q.view.layout (now q.view) s.follows.current.table cell e in h.absent x.0 x.1.0;
+    }
+
+pub store_reads : (p q : PassView) → IsCurrent p.view → IsLayout p.view.layout → Reads p q → StoreReads (standing p.view) (standing q.view)
+store_reads p q c layout r = follows_reads p.view q.view c layout r.follows r.made
 
 -- ---- looking at a cell
 
@@ -243,20 +254,15 @@ seen_grown : (v w : View) → IsCurrent v → IsCurrent w → w.layout ≡ v.lay
 seen_grown v w c d e g cell h = let s = seen-to v.layout (now v) c.table cell h in
     seen-from w.layout (now w) d.table cell s.0 (subst (λ l. Stands l (now w) cell s.0) (sym e) (Stands-grown v.layout (now v) (now w) g cell s.0 s.1.0)) s.1.1
 
-pub meets_mine : (p other q : PassView) → Meets p other q → StoreReads (standing p.view) (standing q.view)
-meets_mine p other q m = record {
+pub meets_mine : (p other q : PassView) → IsLayout p.view.layout → Meets p other q → StoreReads (standing p.view) (standing q.view)
+meets_mine p other q layout m = let quota = ap (λ (o : Owned). o.quota) m.owned in record {
   stays = record {
-    known = keeps_grown p.view q.view m.before m.current m.layout m.grown;
-    seen = seen_grown p.view q.view m.before m.current m.layout m.grown;
+    lasts = lasts p.view q.view (keeps_grown p.view q.view m.before m.current m.layout m.grown) (seen_grown p.view q.view m.before m.current m.layout m.grown) quota m.current (subst IsLayout (sym m.layout) layout);
     made = ap (λ (o : Owned). o.made) m.owned;
     drawn = refl;
-    pooled = refl;
-    quota = ap (λ (o : Owned). o.quota) m.owned;
+    quota = quota;
     blocks = refl;
-    meets = refl;
-    lives = refl;
     dry = refl;
-    identity = refl;
   };
   memo = refl;
   missed = refl;

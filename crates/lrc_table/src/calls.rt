@@ -114,6 +114,7 @@ impl<M: Meaning> Pass<M> {
         ensures notes { self.new.view.learned.notes ≡ self.old.view.learned.notes }
         ensures memo_steps { self.new.view.learned.memo_steps ≡ self.old.view.learned.memo_steps }
     {
+        let _rows = self.published();
         self.take_in(table, other);
     }
 }

@@ -12,4 +12,4 @@ pub remember-requires-clause-allowed : goal.remember-requires-clause-allowed
 remember-requires-clause-allowed c = itself_at (shared_standing c.loop-handle.store) c.args.handles.now c.loop-handle.handle-index c.loop-handle.invariant c.loop-handle-test.true
 
 pub loop-handle-preserved : goal.loop-handle-preserved
-loop-handle-preserved c = stay (shared_standing c.loop-handle.store) (shared_standing c.remember.new.self) c.args.handles.now c.remember.ensures.stays.known c.loop-handle.invariant
+loop-handle-preserved c = stay (shared_standing c.loop-handle.store) (shared_standing c.remember.new.self) c.args.handles.now c.remember.ensures.stays.lasts.known c.loop-handle.invariant

@@ -11,7 +11,7 @@ returns-clause-builds g c =
     let s = g.St.Store.state c.args.store.now in
     let t = g.St.Store.state c.put_pair.new.store in
     let lists = c.in_ok-lists.ensures.builds in
-    pair-then s t _ _ c.args.tree.0 c.in_ok-lists.lists.0 _ _ _ _
-    (kept-meant s t c.args.tree.0 lists.adds.known c.requires.tree_known)
+    pair-then s t _ _ c.args.tree.0 c.in_ok-lists.lists.0 _ _ _ _ _
+    (kept-meant s t c.args.tree.0 lists.adds.gains.lasts.known c.requires.tree_known)
     (stands-meant t c.in_ok-lists.lists.0 _ lists.ok.stands)
-    (right-within _ _ _) lists.adds c.put_pair-2.ensures.builds
+    (right-within _ _ _) lists c.put_pair-2.ensures.builds

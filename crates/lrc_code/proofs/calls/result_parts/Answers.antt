@@ -7,7 +7,7 @@ use Rattle.lrc_store.specs.Cells.{CellTree, number, pair}
 use Rattle.lrc_code.specs.Forms.{result_cell}
 use Rattle.lrc_code.specs.Reading.{HasHeight}
 use Rattle.lrc_store.proofs.Known.{kept-meant}
-use Rattle.lrc_code.proofs.Growing.{reads-then}
+use Rattle.lrc_store.proofs.Lasting.{reads-then}
 use Rattle.lrc_code.proofs.calls.result_parts.Goals as goal
 
 -- the number of the left side
@@ -32,7 +32,7 @@ returns-clause-parts g c =
     let t = g.St.Store.state c.number_of-number.new.store in
     let whole = c.sides_of-whole.ensures.sides in
     let lists = c.sides_of-lists.ensures.sides in
-    let stays = kept-meant s t c.sides_of-whole.result.right.0 c.number_of-number.ensures.reads.stays.known whole.right in
+    let stays = kept-meant s t c.sides_of-whole.result.right.0 c.number_of-number.ensures.reads.stays.lasts.known whole.right in
     let outcome = c.requires.outcome in
     let fits = c.number_of-number.type_inv in
     let again : to_z w64 (of_z w64 c.number_of-number.result) ≡ c.number_of-number.result = omega (arith, ints, fits) in

@@ -1,6 +1,6 @@
 use Rattle.std.proofs.Common.{◌≡◌, ◌∙◌, arith, subst, ℕ}
 use Rattle.lrc_store.specs.Standing.{meant}
-use Rattle.lrc_code.proofs.Growing.{reads-then}
+use Rattle.lrc_store.proofs.Lasting.{reads-then}
 use Rattle.lrc_code.proofs.Reading.{IsBehind, behind-pair, behind-more, behind-item}
 use Rattle.lrc_code.proofs.lists.item_of.Goals as goal
 

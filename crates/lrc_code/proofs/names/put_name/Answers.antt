@@ -5,7 +5,7 @@ use mir.Val.{to_z, of_z}
 use Rattle.std.specs.Int.{div_ceil}
 use Rattle.lrc_store.specs.Cells.{number, pair, parts, IsWithin}
 use Rattle.lrc_code.specs.Forms.{word, words_cell, name_cell}
-use Rattle.lrc_code.proofs.Growing.{left-within, builds-as, linked, adds-more, more-stopped, built, tells-as}
+use Rattle.lrc_code.proofs.Growing.{left-within, builds-as, linked, adds-behind, more-stopped, built, tells-as}
 use Rattle.lrc_code.proofs.Words.{word-front, next-words, name-words, all-words}
 use Rattle.lrc_code.proofs.names.put_name.Goals as goal
 
@@ -77,7 +77,7 @@ loop-done-preserved g c =
     let more = linked s t u 3 c.in_ok-word.word c.loop-done.rest.0 _ _ _ c.loop-done.invariant.tells.stands
     (builds-as s t _ _ _ item c.in_ok-word.ensures.builds) c.in_ok-rest.ensures.builds in
     record {
-      adds = adds-more o s u _ (name_cell c.args.name.now) whole c.loop-done.invariant.adds more.adds;
+      adds = adds-behind o s u _ (name_cell c.args.name.now) _ whole c.loop-done.invariant.adds more;
       tells = tells-as u c.in_ok-rest.rest.0 _ _ (sym (next-words words done bytes c.loop-done-test.true)) more.ok;
       same_meaning = c.in_ok-rest.ensures.same_meaning ∙ c.in_ok-word.ensures.same_meaning ∙ c.loop-done.invariant.same_meaning;
     }

@@ -5,7 +5,8 @@ use mir.Val.{SFits, to_z, of_z}
 use Rattle.lrc_meaning.specs.Tree.{tree}
 use Rattle.lrc_code.specs.Forms.{tree_cell}
 use Rattle.lrc_store.proofs.Known.{stands-meant}
-use Rattle.lrc_code.proofs.Growing.{builds-as, builds-then, linked, adds-more, adds-none, more-stopped, tells-as}
+use Rattle.lrc_store.proofs.Lasting.{adds-same}
+use Rattle.lrc_code.proofs.Growing.{builds-as, builds-then, linked, adds-behind, more-stopped, tells-as}
 use Rattle.lrc_code.proofs.Kids.{next-kid, no-kids, kid-below, node-kids-below, node-production-below, int-cell, bool-cell, name-cell, node-kid-within, node-own-kid-within, node-done}
 use Rattle.lrc_code.proofs.terms.+put_term.Goals as goal
 
@@ -13,7 +14,7 @@ pub loop-done-init : goal.loop-done-init
 loop-done-init g t c =
     let read = c.as_slice-terms.result.now in
     record {
-      adds = adds-none _ _;
+      adds = adds-same _ _;
       tells = tells-as _ _ _ _ (no-kids read) c.nil_in-list.ensures;
       below = λ i kid h e. kid-below 65280 read i kid h e
           (node-kids-below 65280 c.args.term.now c.in-Node.production c.in-Node.kids read c.in-Node.is c.as_slice-terms.ensures c.requires);
@@ -50,9 +51,9 @@ loop-done-preserved g t c =
     let more = linked s (g.St.Store.state c.put_term.new.store) after 4 c.in_ok-kid-in-Node.kid c.loop-done.list.0 _ _ _
     c.loop-done.invariant.tells.stands c.in_ok-kid-in-Node.ensures.builds c.in_ok-list-in-Node.ensures.builds in
     record {
-      adds = adds-more (g.St.Store.state c.args.store.now) s after _ (tree_cell (tree term))
+      adds = adds-behind (g.St.Store.state c.args.store.now) s after _ (tree_cell (tree term)) _
           (node-kid-within term c.in-Node.production c.in-Node.kids read c.loop-done.done kid c.in-Node.is c.as_slice-terms.ensures c.loop-done-test.true c.index-terms-terms.is)
-          c.loop-done.invariant.adds more.adds;
+          c.loop-done.invariant.adds more;
       tells = tells-as after c.in_ok-list-in-Node.list.0 _ _ (sym (next-kid read c.loop-done.done kid c.loop-done-test.true c.index-terms-terms.is)) more.ok;
       below = c.loop-done.invariant.below;
       same_meaning = c.in_ok-list-in-Node.ensures.same_meaning ∙ c.in_ok-kid-in-Node.ensures.same_meaning ∙ c.loop-done.invariant.same_meaning;

@@ -1,4 +1,4 @@
-use Rattle.lrc_code.proofs.Growing.{reads-then}
+use Rattle.lrc_store.proofs.Lasting.{reads-then}
 use Rattle.lrc_code.proofs.terms.kid_of.Goals as goal
 
 pub returns-clause-reads : goal.returns-clause-reads

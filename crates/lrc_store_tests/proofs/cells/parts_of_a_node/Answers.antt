@@ -33,7 +33,7 @@ kid_of-kid-requires-clause-kid g c =
     let v = g.S.Store.state c.production_of-production.new.store in
     let five = c.in_ok-five.five.0 in
     let node = c.in_ok-node.node.0 in
-    let stays = kept-meant u v node c.production_of-production.ensures.reads.stays.known (stands-known u node _ c.in_ok-node.ensures.builds.ok.stands) in (
+    let stays = kept-meant u v node c.production_of-production.ensures.reads.stays.lasts.known (stands-known u node _ c.in_ok-node.ensures.builds.ok.stands) in (
       meant s five,
       (
         7,

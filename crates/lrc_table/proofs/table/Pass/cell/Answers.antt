@@ -24,7 +24,7 @@ returns-clause-puts g c =
     let e : pair c.from.result (meant (standing v) c.from-2.result) (meant (standing v) c.from-3.result) ≡ pair c.args.tag (meant (standing v) c.args.left.0) (meant (standing v) c.args.right.0)
     = (λ i. pair (c.from.ensures i) (meant (standing v) (c.from-2.ensures i)) (meant (standing v) (c.from-3.ensures i))) in
     subst (λ (cell : CellTree). Puts (standing v) (standing c.put.new.self.view) cell c.put.result) e
-    (puts c.args.self.now c.put.new.self _ c.put.result c.published-rows.ensures.current c.put.ensures.seeks c.put.ensures.answers)
+    (puts c.args.self.now c.put.new.self _ c.put.result c.published-rows.ensures.current c.published-rows.ensures.layout c.put.ensures.seeks c.put.ensures.answers)
 
 pub returns-clause-unnoted : goal.returns-clause-unnoted
 returns-clause-unnoted g c = Answers-unnoted c.args.self.now c.put.new.self _ c.put.result c.put.ensures.answers

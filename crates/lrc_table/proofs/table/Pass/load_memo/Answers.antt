@@ -10,7 +10,7 @@ pub returns-clause-of : goal.returns-clause-of
 returns-clause-of g c = IsOf-memoes c.args.self.now c.load_word.new.self c.args.table.now _ c.load_word.ensures.table c.load_word.ensures.step c.requires.of
 
 pub returns-clause-reads : goal.returns-clause-reads
-returns-clause-reads g c = memo_reads c.args.self.now.view c.load_word.new.self.view _ c.published-rows.ensures.current c.load_word.ensures.step
+returns-clause-reads g c = memo_reads c.args.self.now.view c.load_word.new.self.view _ c.published-rows.ensures.current c.published-rows.ensures.layout c.load_word.ensures.step
 
 pub returns-clause-step : goal.returns-clause-step
 returns-clause-step g c = c.load_word.ensures.step.follows.memo_steps

@@ -43,7 +43,7 @@ returns-then-content-eq0-clause-shows g c =
     number_again _ _ _ c.content_of-content.result c.cast_signed.result f c.if-content-eq0.true c.cast_signed.ensures
 
 pub returns-then-content-eq0-clause-reads : goal.returns-then-content-eq0-clause-reads
-returns-then-content-eq0-clause-reads g c = store_reads _ _ c.published-rows.ensures.current c.content_of-content.ensures.reads
+returns-then-content-eq0-clause-reads g c = store_reads _ _ c.published-rows.ensures.current c.published-rows.ensures.layout c.content_of-content.ensures.reads
 
 pub returns-clause-shows : goal.returns-clause-shows
 returns-clause-shows g c =
@@ -54,4 +54,4 @@ returns-clause-shows g c =
     (h.left, h.right, h.is)
 
 pub returns-clause-reads : goal.returns-clause-reads
-returns-clause-reads g c = store_reads _ _ c.published-rows.ensures.current c.content_of-content.ensures.reads
+returns-clause-reads g c = store_reads _ _ c.published-rows.ensures.current c.published-rows.ensures.layout c.content_of-content.ensures.reads

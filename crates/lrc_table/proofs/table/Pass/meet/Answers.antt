@@ -8,4 +8,4 @@ pub returns-clause-seen : goal.returns-clause-seen
 returns-clause-seen g c = meets_seen c.args.self.now c.args.other c.take_in.new.self c.take_in.ensures
 
 pub returns-clause-reads : goal.returns-clause-reads
-returns-clause-reads g c = meets_mine c.args.self.now c.args.other c.take_in.new.self c.take_in.ensures
+returns-clause-reads g c = meets_mine c.args.self.now c.args.other c.take_in.new.self c.published-rows.ensures.layout c.take_in.ensures
