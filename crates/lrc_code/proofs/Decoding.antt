@@ -7,7 +7,7 @@ use Rattle.std.proofs.lemmas.Int.{of_z-to_z}
 use Rattle.std.proofs.lemmas.Grind.{common_steps, div_ceil_times}
 use Rattle.std.specs.Int.{div_ceil, from_le_bytes, to_le_bytes, cast_unsigned, w64}
 use Rattle.lrc_meaning.specs.Tree.{Tree, Trees, int, bool, name, node, none, more}
-use Rattle.lrc_store.specs.Cells.{CellTree, nil, number, pair}
+use Rattle.lrc_store.specs.Cells.{CellTree}
 use Rattle.lrc_code.specs.Forms.{word, words_cell, name_cell, list_cell, tree_cell, kid_cells, IsSpelling, AreSpelled, EachNameBelow}
 use Rattle.lrc_code.specs.Decoding.{items_in, nonzero, bytes_of_word, bytes_of_name, by_tag, tree_in, trees_in}
 
