@@ -11,7 +11,7 @@ mod terms;
 
 pub use fault::AcceptFault;
 pub use job::{Accepted, accept};
-pub use laws::{scripts_exactly_sessions_of_puts, sessions_exactly_where_fitting};
+pub use laws::sessions_exactly_where_fitting;
 
 #[cfg(test)]
 mod tests;
