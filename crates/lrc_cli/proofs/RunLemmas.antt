@@ -12,7 +12,7 @@ use Rattle.lrc_base.specs.declared.job.Script.{Script}
 use Rattle.lrc_base.specs.declared.job.Job.{Job}
 use Rattle.lrc_meaning.specs.Tree.{Tree, tree}
 use Rattle.lrc_meaning.specs.Grammar.{Grammar, attrs_of_sort, is_well_formed}
-use Rattle.lrc_meaning.specs.Editing.{Change, change, Reply, ReplyRun, never_full}
+use Rattle.lrc_meaning.specs.Editing.{Change, change, Reply, Attempt, ReplyRun, never_full}
 use Rattle.lrc_meaning.specs.Text.{unparsed, run_text}
 use Rattle.lrc_reader.specs.Denotes.{Denotes}
 use Rattle.lrc_script.specs.declared.reply.Replies.{Replies}
@@ -114,7 +114,8 @@ run_of bytes text depth g t edits all attrs b s is e = record {
   built = b;
   replies = map reply_of all.replies;
   last = option_map tree all.last;
-  runs = s (unparsed g.prods);
+  attempts = (s (unparsed g.prods)).0;
+  runs = (s (unparsed g.prods)).1;
   prints = e ∙ sym (run_text-one_session g attrs all (well_formed bytes g _ b.accepted) is);
 }
 
@@ -131,12 +132,12 @@ same_session one bytes g h t u cs ds a b =
     (same.0, ap (λ (s : Session). s.opening) session, ap (λ (s : Session). s.changes) session)
 
 -- a run of the replies, whichever its grammar, its tree and its changes are called
-moved : (depth : ℕ) (g h : Grammar) (t u : Tree) (cs ds : List Change) (rs : List Reply) (last : Option Tree) → g ≡ h → t ≡ u → cs ≡ ds →
-    ReplyRun g depth (unparsed g.prods) never_full t cs rs last → ReplyRun h depth (unparsed h.prods) never_full u ds rs last
-moved depth g h t u cs ds rs last e f k run =
-    subst (λ (z : List Change). ReplyRun h depth (unparsed h.prods) never_full u z rs last) k
-    (subst (λ (z : Tree). ReplyRun h depth (unparsed h.prods) never_full z cs rs last) f
-    (subst (λ (z : Grammar). ReplyRun z depth (unparsed z.prods) never_full t cs rs last) e run))
+moved : (depth : ℕ) (g h : Grammar) (t u : Tree) (cs ds : List Change) (rs : List Reply) (last : Option Tree) (all : List Attempt) → g ≡ h → t ≡ u → cs ≡ ds →
+    ReplyRun g depth (unparsed g.prods) never_full t cs rs last all → ReplyRun h depth (unparsed h.prods) never_full u ds rs last all
+moved depth g h t u cs ds rs last all e f k run =
+    subst (λ (z : List Change). ReplyRun h depth (unparsed h.prods) never_full u z rs last all) k
+    (subst (λ (z : Tree). ReplyRun h depth (unparsed h.prods) never_full z cs rs last all) f
+    (subst (λ (z : Grammar). ReplyRun z depth (unparsed z.prods) never_full t cs rs last all) e run))
 
 same_text : (g h : Grammar) (rs qs : List Reply) (last end : Option Tree) → g ≡ h → rs ≡ qs → last ≡ end → run_text g (rs ∷ []) (last ∷ []) ≡ run_text h (qs ∷ []) (end ∷ [])
 same_text g h rs qs last end e f k =
@@ -145,8 +146,8 @@ same_text g h rs qs last end e f k =
 pub one_text_of : OneJob → SessionsAreUnique → (bytes text other : List ℕ) (depth : ℕ) → IsRunOf bytes depth text → IsRunOf bytes depth other → text ≡ other
 one_text_of one unique bytes text other depth a b =
     let same = same_session one bytes a.grammar b.grammar a.opening b.opening a.changes b.changes a.built b.built in
-    let here = moved depth a.grammar b.grammar a.opening b.opening a.changes b.changes a.replies a.last same.0 same.1 same.2 a.runs in
-    let answers = unique b.grammar depth (unparsed b.grammar.prods) b.opening b.changes a.replies b.replies a.last b.last (well_formed bytes b.grammar _ b.built.accepted) b.built.plain here b.runs in
+    let here = moved depth a.grammar b.grammar a.opening b.opening a.changes b.changes a.replies a.last a.attempts same.0 same.1 same.2 a.runs in
+    let answers = unique b.grammar depth (unparsed b.grammar.prods) b.opening b.changes a.replies b.replies a.last b.last a.attempts b.attempts (well_formed bytes b.grammar _ b.built.accepted) b.built.plain here b.runs in
     a.prints ∙ same_text a.grammar b.grammar a.replies b.replies a.last b.last same.0 answers.0 answers.1 ∙ sym b.prints
 
 pub not_many : (b : Bool) (m n : ℕ) → (IsTrue b → n < m) × (n < m → IsTrue b) → b ≡ false → m ≤ n

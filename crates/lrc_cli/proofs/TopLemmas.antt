@@ -1,11 +1,11 @@
 -- Why an input is refused, and what is told of it.
-use Rattle.std.proofs.Common.{◌≡◌, ℕ, Bool, true, false, ◌<◌, ◌≤◌, ◌*◌, List, [], ◌∷◌, length, take, Option, Some, None, Result, Ok, Err, IfOk, IfErr, IsErrAnd, All, MatchBool, ◌⊎◌, inl, inr, ◌≢◌, refl, sym, arith, ap, ◌∙◌, subst, IsTrue}
-use Rattle.std.proofs.lemmas.List.{drop_all, take_all}
+use Rattle.std.proofs.Common.{◌≡◌, ℕ, Bool, true, false, ◌<◌, ◌≤◌, ◌*◌, List, [], ◌∷◌, length, take, drop, ◌++◌, min, Option, Some, None, Result, Ok, Err, IfOk, IfErr, OnErr, IsErrAnd, All, MatchBool, ◌⊎◌, inl, inr, ◌≢◌, refl, sym, arith, ap, ◌∙◌, subst, IsTrue}
+use Rattle.std.proofs.lemmas.List.{drop_all, take_all, take-append-drop, length-take}
 use Rattle.std.proofs.lemmas.Grind.{common_steps}
 use Rattle.std.specs.Prelude.{String}
 use Rattle.std.specs.declared.alloc.Global.{Global}
-use Rattle.std.specs.Io.KnownBytes.{Appends, Keeps}
-use Rattle.lrc_outside.specs.Known.{TakesUpTo, AppendsPart}
+use Rattle.std.specs.Io.KnownBytes.{Appends, Keeps, Consumes}
+use Rattle.lrc_outside.specs.Known.{TakesUpTo, LosesUpTo, AppendsPart}
 use Rattle.lrc_words.specs.declared.command.Command.{Command}
 use Rattle.lrc_words.specs.declared.command.Verb.{Verb}
 use Rattle.lrc_words.specs.declared.command.Verb.TheVariants as verb
@@ -34,7 +34,7 @@ use Rattle.lrc_meaning.specs.Editing.{Change}
 use Rattle.lrc_meaning.specs.Grammar.{Grammar}
 use Rattle.lrc_failures.specs.Taken.{failure_of_text, failure_of_job}
 use Rattle.lrc_cli.specs.Headline.{IsAccepted, IsBuilt, IsOutputOf, IsBuiltFor}
-use Rattle.lrc_cli.specs.Causes.{row_limit, IsCycleAt, IsUnbuiltVerb, IsBuiltVerb, TellsOrder, IsUnordered, has_cycle, has_no_memory, IsCause, no_job, not_accepted, too_many_rows, no_run, not_ordered, no_memory}
+use Rattle.lrc_cli.specs.Causes.{row_limit, IsCycleAt, IsUnbuiltVerb, IsBuiltVerb, ReadsNothing, TellsOrder, IsUnordered, has_cycle, has_no_memory, IsCause, no_job, not_accepted, too_many_rows, no_run, not_ordered, no_memory}
 use Rattle.lrc_cli.proofs.RunLemmas.{OneJob, same_accepted}
 use Rattle.lrc_cli.specs.Status.{input_limit, IsReadWhole, Done, Unwritten, IsRefused, unread, read, Refused, HoldsJob, is_refusal}
 
@@ -47,6 +47,35 @@ pub not_read : (words : List (String Global)) (left : Option (List ℕ)) (comman
     → MatchBool b (IsBuiltVerb command.verb) (IsUnbuiltVerb command.verb) → Refused words left left f.NotBuilt
 not_read words left command b says within unbuilt built =
     record { command = command; says = says; within = within; refused = unread (subst (λ (x : Bool). MatchBool x (IsBuiltVerb command.verb) (IsUnbuiltVerb command.verb)) unbuilt built) (keeps_itself left) }
+
+-- what a source loses is at most the limit, where nothing was taken and where it was read
+pub loses_nothing : (left : Option (List ℕ)) → LosesUpTo input_limit left left
+loses_nothing None = ([], omega arith, tt)
+loses_nothing (Some xs) = ([], omega arith, refl)
+
+pub loses_taken : (left left' : Option (List ℕ)) (input : List ℕ) → TakesUpTo input_limit left left' input → LosesUpTo input_limit left left'
+loses_taken None left' input taken = ([], omega arith, tt)
+loses_taken (Some xs) left' input taken = (
+  take input_limit xs,
+  (let n = length-take input_limit xs in omega arith),
+  subst (λ (o : Option (List ℕ)). Consumes (Some xs) o (take input_limit xs)) (sym taken.1) (sym (take-append-drop input_limit xs)),
+)
+
+-- a command that reads nothing is not built
+never_both : (v : Verb) → IsBuiltVerb v → ReadsNothing v → ⊥
+never_both v (inl run) (inl (inl solo)) = absurd (cc)
+never_both v (inl run) (inl (inr gen)) = absurd (cc)
+never_both v (inl run) (inr gen) = absurd (cc)
+never_both v (inr (inl check)) (inl (inl solo)) = absurd (cc)
+never_both v (inr (inl check)) (inl (inr gen)) = absurd (cc)
+never_both v (inr (inl check)) (inr gen) = absurd (cc)
+never_both v (inr (inr plan)) (inl (inl solo)) = absurd (cc)
+never_both v (inr (inr plan)) (inl (inr gen)) = absurd (cc)
+never_both v (inr (inr plan)) (inr gen) = absurd (cc)
+
+-- what is known of a command that is built
+pub known_built : (command : Command) (b : Bool) → b ≡ true → MatchBool b (IsBuiltVerb command.verb) (IsUnbuiltVerb command.verb) → IsBuiltVerb command.verb
+known_built command b is built = subst (λ (x : Bool). MatchBool x (IsBuiltVerb command.verb) (IsUnbuiltVerb command.verb)) is built
 
 -- what may be a cause: a refusal of the input, or want of memory
 abbrev may_be_cause : Failure → Bool
@@ -81,9 +110,9 @@ never_write command input failure c e = let known = is_cause command input failu
 
 -- an input that was read and is refused for a cause
 pub refused_for : (words : List (String Global)) (left left' : Option (List ℕ)) (command : Command) (input : List ℕ) (failure : Failure) → Says (texts words) command → IsWithinRanges command
-    → TakesUpTo input_limit left left' input → IsCause command input failure → Refused words left left' failure
-refused_for words left left' command input failure says within taken cause =
-    record { command = command; says = says; within = within; refused = read input failure taken cause }
+    → IsBuiltVerb command.verb → TakesUpTo input_limit left left' input → IsCause command input failure → Refused words left left' failure
+refused_for words left left' command input failure says within built taken cause =
+    record { command = command; says = says; within = within; refused = read input failure built taken cause }
 
 few : (n : ℕ) (xs : List ℕ) → length (take n xs) < n → length xs ≤ n
 few n xs h = grind (arith, common_steps)
@@ -221,6 +250,12 @@ not_usage words command says (inr n) = let verb = says.verb in absurd (cc)
 same_command : (words : List (List ℕ)) (c d : Command) → Says words c → Says words d → (c.verb ≡ d.verb)
 same_command words c d a b = let one = a.verb in let other = b.verb in cc
 
+-- words that ask for a command that is built ask for none that reads nothing
+pub reads_something : (words : List (List ℕ)) (command : Command) (b : Bool) → Says words command → b ≡ true → MatchBool b (IsBuiltVerb command.verb) (IsUnbuiltVerb command.verb)
+    → (other : Command) → Says words other → ReadsNothing other.verb → ⊥
+reads_something words command b says is built other says-too nothing =
+    never_both command.verb (known_built command b is built) (subst ReadsNothing (same_command words other command says-too says) nothing)
+
 -- ---- a source that holds a job that can be run is not refused
 
 two_ways : (job : Job) (g h : Grammar) (ss : List Session) (fault : AcceptFault) → HasSessions job g (Ok ss) → HasSessions job h (Err fault) → ⊥
@@ -314,7 +349,7 @@ not_refused one words command (Some bytes) left' failure says job r refused = by
 
     by : (failure : Failure) → IsTrue (is_refusal failure) → IsRefused refused.command (Some bytes) left' failure → ⊥
     by _ r (unread unbuilt keeps) = unbuilt_has_none refused.command.verb bytes moved unbuilt
-    by _ r (read input failure taken cause) =
+    by _ r (read input failure built taken cause) =
         let short = short_job refused.command.verb bytes moved in
         let whole : input ≡ bytes = taken.0 ∙ take_all input_limit bytes (omega arith) in
         not_refused_for one refused.command bytes refused.command.verb refl moved failure refused.within r (subst (λ (z : List ℕ). IsCause refused.command z failure) whole cause)

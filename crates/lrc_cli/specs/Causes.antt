@@ -69,6 +69,10 @@ IsUnbuilt command = IsUnbuiltVerb command.verb
 abbrev pub IsBuiltVerb : Verb → Type 0
 IsBuiltVerb v = (v ≡ verb.Run) ⊎ ((v ≡ verb.Check) ⊎ (v ≡ verb.Plan))
 
+-- the command reads nothing: one of which nothing is built, and `gen`, which makes its own job
+abbrev pub ReadsNothing : Verb → Type 0
+ReadsNothing v = IsUnbuiltVerb v ⊎ (v ≡ verb.Gen)
+
 -- the command tells whether a grammar is ordered
 abbrev pub TellsOrder : Command → Type 0
 TellsOrder command = (command.verb ≡ verb.Check) ⊎ (command.verb ≡ verb.Plan)

@@ -5,7 +5,7 @@ use Rattle.lrc_base.specs.declared.job.Job.{Job}
 use Rattle.lrc_meaning.specs.Tree.{Tree}
 use Rattle.lrc_meaning.specs.Grammar.{Grammar}
 use Rattle.lrc_meaning.specs.Plain.{is_plain}
-use Rattle.lrc_meaning.specs.Editing.{Change, put, copy, show, forget, Reply, ReplyRun, never_full}
+use Rattle.lrc_meaning.specs.Editing.{Change, put, copy, show, forget, Reply, Attempt, ReplyRun, never_full}
 use Rattle.lrc_meaning.specs.Text.{unparsed, run_text}
 use Rattle.lrc_reader.specs.Denotes.{Denotes}
 use Rattle.lrc_job.specs.Job.{Session, HasSessions}
@@ -64,7 +64,8 @@ pub record IsRunOf (bytes : List ℕ) (depth : ℕ) (text : List ℕ) : Type 0 w
   pub built : IsBuilt bytes grammar opening changes
   pub replies : List Reply
   pub last : Option Tree
-  pub runs : ReplyRun grammar depth (unparsed grammar.prods) never_full opening changes replies last
+  pub attempts : List Attempt
+  pub runs : ReplyRun grammar depth (unparsed grammar.prods) never_full opening changes replies last attempts
   pub prints : text ≡ run_text grammar (replies ∷ []) (last ∷ [])
 
 -- What a command prints for its input, with this depth.

@@ -8,7 +8,7 @@ use Rattle.lrc_words.specs.CommandLine.{Says, IsWithinRanges, texts}
 use Rattle.lrc_failures.specs.declared.failure.Failure.{Failure}
 use Rattle.lrc_failures.specs.declared.failure.Failure.TheVariants as f
 use Rattle.lrc_cli.specs.Headline.{IsOutputOf, IsBuiltFor}
-use Rattle.lrc_cli.specs.Causes.{IsUnbuilt, IsCause}
+use Rattle.lrc_cli.specs.Causes.{IsUnbuilt, IsBuiltVerb, IsCause}
 
 -- the most bytes that are read: one more than a job has
 abbrev pub input_limit : ℕ
@@ -39,11 +39,11 @@ pub record Unwritten (words : List (String Global)) (left left' held held' : Opt
   pub output : IsOutputOf command.verb command.depth input text
   pub part : AppendsPart held held' text
 
--- Statuses 5 and 6: the command is not built and nothing was read; or what was read, the whole or one byte more than a
--- job has, is refused for a cause.
+-- Statuses 5 and 6: the command is not built and nothing was read; or it is built, and what was read, the whole or one
+-- byte more than a job has, is refused for a cause.
 pub data IsRefused (command : Command) (left left' : Option (List ℕ)) : Failure → Type 0 where
   unread : IsUnbuilt command → Keeps left left' → IsRefused command left left' f.NotBuilt
-  read : (input : List ℕ) (failure : Failure) → TakesUpTo input_limit left left' input → IsCause command input failure → IsRefused command left left' failure
+  read : (input : List ℕ) (failure : Failure) → IsBuiltVerb command.verb → TakesUpTo input_limit left left' input → IsCause command input failure → IsRefused command left left' failure
 
 pub record Refused (words : List (String Global)) (left left' : Option (List ℕ)) (failure : Failure) : Type 0 where
   pub command : Command

@@ -1,6 +1,7 @@
 ghost use Rattle.std.specs.Prelude.{◌≡◌, ℕ, List, ◌≢◌, ◌≤◌, ◌⊎◌, false, IsTrue, MatchBool, None, Ok, Err, IfOk, IfErr, OnOk};
 ghost use Rattle.std.specs.Io.KnownBytes.{Keeps};
 ghost use Rattle.lrc_outside.specs.Count.{Rose};
+ghost use Rattle.lrc_outside.specs.Known.{LosesUpTo};
 ghost use Rattle.lrc_words.specs.declared.command.Command.{Command};
 ghost use Rattle.lrc_words.specs.CommandLine.{Says, IsWithinRanges, AreRefused, texts, verb_of};
 ghost use Rattle.lrc_failures.specs.Lines.{status_of, line_of, IsStatus};
@@ -8,8 +9,8 @@ ghost use Rattle.lrc_failures.specs.Gains.{GainsLine};
 ghost use Rattle.lrc_failures.specs.declared.failure.Failure.{Failure};
 ghost use Rattle.lrc_failures.specs.declared.failure.Failure.TheVariants as f;
 ghost use Rattle.lrc_cli.specs.Headline.{IsOutputOf, IsRunOf};
-ghost use Rattle.lrc_cli.specs.Causes.{IsBuiltVerb, IsUnbuiltVerb, IsCause};
-ghost use Rattle.lrc_cli.specs.Status.{Done, Unwritten, Refused, HoldsJob, is_refusal};
+ghost use Rattle.lrc_cli.specs.Causes.{IsBuiltVerb, IsUnbuiltVerb, ReadsNothing, IsCause};
+ghost use Rattle.lrc_cli.specs.Status.{Done, Unwritten, Refused, HoldsJob, is_refusal, input_limit};
 
 use crate::order::{partitions, sequences};
 use crate::run::{one_text, run_text};
@@ -91,6 +92,8 @@ fn answered<S: Source, O: Sink>(
     ensures part { result ≡ Err f.Write → Unwritten words.now (S.left source.old) (S.left source.new) (O.held out.old) (O.held out.new) }
     ensures refused { IfErr result (λ failure. IsTrue (is_refusal failure) → Refused words.now (S.left source.old) (S.left source.new) failure) }
     ensures nothing_written { result ≢ Ok tt → result ≢ Err f.Write → Keeps (O.held out.old) (O.held out.new) }
+    ensures taken { LosesUpTo input_limit (S.left source.old) (S.left source.new) }
+    ensures kept { (command : Command) → Says (texts words.now) command → ReadsNothing command.verb → source.new ≡ source.old }
     ensures source_count { S.faults source.old ≤ S.faults source.new }
     ensures out_count { O.faults out.old ≤ O.faults out.new }
 {
@@ -128,6 +131,11 @@ pub fn lrc<R: Threads + Sync, S: Source, O: Sink, E: Sink>(
     ensures refused { (result ≡ 5) ⊎ (result ≡ 6) → (failure : Failure) × (result ≡ status_of failure) × Refused words.now (S.left source.old) (S.left source.new) failure × GainsLine (E.held err.old) (E.held err.new) (E.faults err.old) (E.faults err.new) (line_of failure) }
     ensures statuses { IsStatus result }
     ensures complete { (command : Command) → Says (texts words.now) command → ¬ Rose (S.faults source.old) (S.faults source.new) → ¬ Rose (O.faults out.old) (O.faults out.new) → HoldsJob command (S.left source.old) → (result ≡ 0) ⊎ (result ≡ 7) }
+
+    // Whatever the status, no more is taken from the front of the source than one byte more than a job has, and
+    // nothing where the command is not built or makes its own job.
+    ensures taken { LosesUpTo input_limit (S.left source.old) (S.left source.new) }
+    ensures kept { (command : Command) → Says (texts words.now) command → ReadsNothing command.verb → source.new ≡ source.old }
 
     // Nothing is written before all is computed, and of a fault only its line.
     ensures nothing_written { result ≢ 0 → result ≢ 4 → Keeps (O.held out.old) (O.held out.new) }

@@ -2,4 +2,3 @@ pub mod ResolvedLemmas
 pub mod TermLawLemmas
 pub mod JobLemmas
 pub mod LawLemmas
-pub mod ScriptLemmas

@@ -1,6 +1,5 @@
 -- Sessions that are found, in terms of trees that fit.
-use Rattle.std.specs.Prelude.{◌≡◌, ℕ, Bool, true, false, IsTrue, List, [], ◌∷◌, Ok}
-use Rattle.std.specs.List.{list_all}
+use Rattle.std.specs.Prelude.{◌≡◌, ℕ, List, [], ◌∷◌, Ok}
 use Rattle.lrc_base.specs.declared.grammar.Kind.{Kind}
 use Rattle.lrc_base.specs.declared.grammar.Kind.TheVariants as k
 use Rattle.lrc_base.specs.declared.grammar.Production.{Production}
@@ -9,7 +8,6 @@ use Rattle.lrc_base.specs.declared.job.RawEdit.TheVariants as raw
 use Rattle.lrc_base.specs.declared.job.RawScript.{RawScript}
 use Rattle.lrc_meaning.specs.Tree.{Tree}
 use Rattle.lrc_meaning.specs.Grammar.{Grammar}
-use Rattle.lrc_meaning.specs.Accepted.{IsScriptOf}
 use Rattle.lrc_meaning.specs.Editing.{Change, put, copy, show, forget}
 use Rattle.lrc_job.specs.TermLaws.{NamesFitting}
 use Rattle.lrc_job.specs.Job.{Session, session_of}
@@ -37,19 +35,3 @@ FoundIsSession = (g : Grammar) (s : ℕ) (script : RawScript) (a : Session) → 
 -- and each such session is found
 abbrev pub SessionIsFound : Type 0
 SessionIsFound = (g : Grammar) (s : ℕ) (script : RawScript) (a : Session) → IsSessionOf g script a → session_of g s script ≡ Ok a
-
-abbrev pub is_put : RawEdit → Bool
-is_put (raw.Put path term) = true
-is_put (raw.Copy from to) = false
-is_put raw.Show = false
-is_put (raw.Forget place) = false
-
--- where each edit is a put, a session is a script of its tree and its changes
-abbrev pub SessionIsScript : Type 0
-SessionIsScript =
-    (g : Grammar) (script : RawScript) (a : Session) → IsTrue (list_all is_put script.edits) → IsSessionOf g script a → IsScriptOf g script a.opening a.changes
-
--- and a script is a session, each of whose edits is a put
-abbrev pub ScriptIsSession : Type 0
-ScriptIsSession =
-    (g : Grammar) (script : RawScript) (a : Session) → IsScriptOf g script a.opening a.changes → IsTrue (list_all is_put script.edits) × IsSessionOf g script a

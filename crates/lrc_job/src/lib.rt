@@ -16,7 +16,7 @@ mod terms;
 pub use fault::AcceptFault;
 pub use job::{Accepted, accept};
 pub use kinds::kind_of;
-pub use laws::{scripts_exactly_sessions_of_puts, sessions_exactly_where_fitting};
+pub use laws::sessions_exactly_where_fitting;
 pub use term::resolve;
 pub use term_fault::TermFault;
 pub use term_laws::found_exactly_where_fitting;

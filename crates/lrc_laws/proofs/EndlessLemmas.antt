@@ -49,6 +49,7 @@ mutual
 
 pub one_attribution : Attributes endless 1 one (int (pos 1) ∷ [])
 one_attribution = record {
+  fitting = refl;
   attribution = at_node 1 (int (pos 1) ∷ []) end end;
   is_attribution = record {
     is_bare = refl;

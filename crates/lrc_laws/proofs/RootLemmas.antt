@@ -118,10 +118,10 @@ module _ (g : Grammar) (found : Partitions) (plan : HasSoundPlan g found) where
       absurd (true≢false (sym inherits ∙ start_plain g found plan.partitions plan.formed plan.given x attr (ap (λ r. slice_get (attrs_of_sort g.sorts r) x) (sym sort) ∙ has))))
 
   -- the attributes within a limit are given by the root's visit
-  pub attributes_given : (limit : ℕ) (t : Tree) (vs : List Tree) → IsTrue (fits g.prods t (k.Sort g.start)) → Attributes g limit t vs → RootGives g found limit t vs
-  attributes_given limit t vs h a =
+  pub attributes_given : (limit : ℕ) (t : Tree) (vs : List Tree) → Attributes g limit t vs → RootGives g found limit t vs
+  attributes_given limit t vs a =
       let d = a.attribution in
-      let left = of_start t d a.is_attribution.is_bare h in
+      let left = of_start t d a.is_attribution.is_bare a.fitting in
       let served = serves g found.sorts plan.formed sound limit d g.start a.is_attribution.is_right a.within left 1 (omega arith) (let single = one in omega (arith, single)) in
       let count : length (attributes_of d) ≡ length start_attrs = attributes_count g d (k.Sort g.start) a.is_attribution.is_right left in
       let own : attributes_of d ≡ map (λ x. slice_index_or (attributes_of d) x no_tree) (range_with_len 0 (length start_attrs)) =
@@ -187,6 +187,7 @@ module _ (g : Grammar) (found : Partitions) (plan : HasSoundPlan g found) where
 
     result_attributes : Attributes g limit t r.synthesised
     result_attributes = record {
+      fitting = h;
       attribution = root_built.decorated;
       is_attribution = record { is_bare = root_built.is_bare; is_right = root_built.right };
       within = root_built.low;
@@ -208,7 +209,7 @@ module _ (g : Grammar) (found : Partitions) (plan : HasSoundPlan g found) where
       let low : height d ≤ r.height = subst (λ x. height x ≤ r.height) same within in
       elim (cases_lt (height d) r.height) [
         | inl below ↦
-            let given = attributes_given (height d) t (synthesised start_attrs (attributes_of d)) h (record { attribution = d; is_attribution = a; within = omega arith; values = refl }) in
+            let given = attributes_given (height d) t (synthesised start_attrs (attributes_of d)) (record { fitting = h; attribution = d; is_attribution = a; within = omega arith; values = refl }) in
             absurd (none-some given.result (sym (none_below g found.sorts fuel (height d) (root_call t) r e below) ∙ given.is_result))
         | inr above ↦ omega (arith, low, above)
       ]

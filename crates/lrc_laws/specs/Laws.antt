@@ -42,10 +42,11 @@ pub record RootGives (g : Grammar) (found : Partitions) (fuel : ℕ) (t : Tree) 
   pub is_result : plain_visit g found.sorts fuel (root_call t) ≡ Some result
   pub values : result.synthesised ≡ vs
 
--- the attributes of a tree of the start sort within a limit are exactly what its root's visit gives with that fuel
+-- the attributes of a tree within a limit are exactly what its root's visit gives with that fuel, where it is of the start
+-- sort
 abbrev pub VisitsGiveAttributes : Type 0
-VisitsGiveAttributes = (g : Grammar) (found : Partitions) → HasOrder g found → (limit : ℕ) (t : Tree) (vs : List Tree) → IsTrue (fits g.prods t (k.Sort g.start))
-    → Attributes g limit t vs ↔ RootGives g found limit t vs
+VisitsGiveAttributes = (g : Grammar) (found : Partitions) → HasOrder g found → (limit : ℕ) (t : Tree) (vs : List Tree)
+    → Attributes g limit t vs ↔ (IsTrue (fits g.prods t (k.Sort g.start)) × RootGives g found limit t vs)
 
 -- where the root's visit has a result it is as high as the tree's attribution
 abbrev pub VisitsAreAsHigh : Type 0

@@ -4,6 +4,7 @@
 -- Higher-Order Attribute Grammars (1989). It is a local check on a finished tree, and knows no order of evaluation.
 use Rattle.std.specs.Prelude.{◌≡◌, ℕ, zero, suc, ◌≤◌, max, Bool, true, false, not, ◌&&◌, IsTrue, List, [], ◌∷◌, ◌++◌, length, Option, Some, None, slice_get, cond, ⊤}
 use Rattle.std.specs.List.{AllByRecursion}
+use Rattle.lrc_base.specs.declared.grammar.Kind.TheVariants as k
 use Rattle.lrc_base.specs.declared.grammar.Attr.{Attr}
 use Rattle.lrc_base.specs.declared.grammar.Kid.{Kid}
 use Rattle.lrc_base.specs.declared.grammar.Extra.{Extra}
@@ -134,8 +135,9 @@ synthesised [] vs = []
 synthesised (a ∷ rest) [] = []
 synthesised (a ∷ rest) (v ∷ vs) = cond a.inherited (synthesised rest vs) (v ∷ synthesised rest vs)
 
--- The tree t of the start sort has an attribution of height at most limit, and its root's synthesised values are vs.
+-- The tree t is of the start sort and has an attribution of height at most limit, and its root's synthesised values are vs.
 pub record Attributes (g : Grammar) (limit : ℕ) (t : Tree) (vs : List Tree) : Type 0 where
+  pub fitting : IsTrue (fits g.prods t (k.Sort g.start))
   pub attribution : Decorated
   pub is_attribution : IsAttribution g t attribution
   pub within : height attribution ≤ limit

@@ -5,7 +5,6 @@ pub mod Attribution
 pub mod Editing
 pub mod Text
 pub mod Naming
-pub mod Accepted
 pub mod Plain
 pub mod Limits
 pub mod Examples

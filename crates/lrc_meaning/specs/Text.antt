@@ -63,7 +63,7 @@ module _ (prods : List Production) where
     unparsed_all none = []
     unparsed_all (more t ts) = unparsed t ∷ unparsed_all ts
 
--- a text of more than 65,536 bytes prints as `<long>`
+-- the text of a value or of a tree prints as `<long>` where it has more than 65,536 bytes
 abbrev pub limited : List ℕ → List ℕ
 limited text = if nat_lt 65536 (length text) then codes "<long>" else text
 
@@ -89,7 +89,7 @@ reply_body g wrong_sort = codes " wrongsort"
 reply_body g too_deep = codes " toodeep"
 reply_body g full = codes " full"
 reply_body g unopened = codes " unopened"
-reply_body g (shown text) = codes " shown " ++ text
+reply_body g (shown text) = codes " shown " ++ limited text
 reply_body g forgot = codes " forgot"
 
 -- the lines of replies, numbered from n on

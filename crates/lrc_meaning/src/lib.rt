@@ -2,13 +2,14 @@
 //! expressions, grammars, attribution, editing rules, printed texts and the numbering of names.
 //!
 //! The functions here do nothing; each carries a law as its contract: worked examples by which a
-//! reader can try the definitions.
+//! reader can try the definitions, and that the replies of a session tell the rest of it.
 #![tactic(auto)]
 
 ghost use Rattle.std.specs.Prelude.{◌≡◌, ℕ, pos, [], ◌∷◌, IsTrue, true};
 ghost use Rattle.lrc_meaning.specs.Tree.{Tree, int, fits};
 ghost use Rattle.lrc_meaning.specs.Grammar.{is_well_formed};
 ghost use Rattle.lrc_meaning.specs.Attribution.{Attributes, IsAttribution};
+ghost use Rattle.lrc_meaning.specs.Editing.{RepliesTellTheRest};
 ghost use Rattle.lrc_meaning.specs.Examples.{sums, one_and_two, decorated_sum, declarations, two_declarations};
 
 /// The sum grammar and the declarations grammar are well formed.
@@ -30,4 +31,9 @@ pub fn a_wrong_value_is_no_attribution()
 /// Two declarations under an inherited environment, with a local each: both are bad.
 pub fn two_declarations_are_bad()
     ensures { Attributes declarations 4 two_declarations (int (pos 2) ∷ []) }
+{}
+
+/// The last tree of a session and all its attempts are fixed by its tree, its edits and their replies.
+pub fn replies_tell_the_rest()
+    ensures { RepliesTellTheRest }
 {}

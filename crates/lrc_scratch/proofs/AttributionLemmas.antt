@@ -147,6 +147,7 @@ attributes_are g w p (bool b) f = absurd (false≢true f)
 attributes_are g w p (name n) f = absurd (false≢true f)
 attributes_are g w p (node q kids) f =
     record {
+      fitting = f;
       attribution = decorated g.sorts g.prods (node q kids);
       is_attribution = is_attribution_of g (is_summable_of g w p) q kids (k.Sort g.start) f;
       within = le_of _ _ (ap suc (max_zero (highest (parts g.sorts g.prods kids)) ∙ highest_parts g.sorts g.prods kids));

@@ -5,7 +5,8 @@ use Rattle.lrc_meaning.specs.Tree.{Tree, kind_of, at_place, replaced}
 use Rattle.lrc_meaning.specs.Grammar.{Grammar, attrs_of_sort, is_well_formed}
 use Rattle.lrc_meaning.specs.Plain.{is_plain}
 use Rattle.lrc_meaning.specs.Attribution.{Attributes, Decorated, attributes_of, synthesised}
-use Rattle.lrc_meaning.specs.Editing.{Change, put, copy, show, forget, Reply, values, bad_path, wrong_sort, too_deep, full, shown, forgot, Attempted, gives, is_too_deep, is_full, EditStep, put_nowhere, put_other_kind, puts, copy_from_nowhere, copy_to_nowhere, copy_other_kind, copies, shows, forgets, EditRun, done, then, all_unopened, ReplyRun, opens, opens_too_deep, opens_full, never_full}
+use Rattle.lrc_meaning.specs.Editing.{Change, put, copy, show, forget, Reply, values, bad_path, wrong_sort, too_deep, full, shown, forgot, Attempt, attempts_of, Attempted, gives, is_too_deep, is_full, EditStep, put_nowhere, put_other_kind, puts, copy_from_nowhere, copy_to_nowhere, copy_other_kind, copies, shows, forgets, EditRun, done, then, all_unopened, ReplyRun, opens, opens_too_deep, opens_full, never_full}
+use Rattle.lrc_meaning.proofs.EditLemmas.{replies_tell}
 use Rattle.lrc_scratch.specs.Laws.{AttributionsAreUnique}
 
 module _ (g : Grammar) (limit : ℕ) (text_of : Tree → List ℕ) where
@@ -14,10 +15,10 @@ module _ (g : Grammar) (limit : ℕ) (text_of : Tree → List ℕ) where
     with : (vs : List Tree) → Attributes g limit attempt vs → r ≡ values vs → after ≡ attempt → Answers before attempt r after
     without : ((vs : List Tree) → ¬ Attributes g limit attempt vs) → r ≡ too_deep → after ≡ before → Answers before attempt r after
 
-  answers : (attempts : List Tree) (before attempt : Tree) (r : Reply) (after : Tree) → Attempted g limit text_of never_full attempts before attempt r after → Answers before attempt r after
-  answers attempts before attempt r after (gives vs a) = with vs a refl refl
-  answers attempts before attempt r after (is_too_deep none) = without none refl refl
-  answers attempts before attempt r after (is_full f) = absurd f
+  answers : (earlier : List Attempt) (before attempt : Tree) (r : Reply) (after : Tree) → Attempted g limit text_of never_full earlier before attempt r after → Answers before attempt r after
+  answers earlier before attempt r after (gives vs a) = with vs a refl refl
+  answers earlier before attempt r after (is_too_deep fit none) = without none refl refl
+  answers earlier before attempt r after (is_full fit f) = absurd f
 
   -- an edit's answer where something stands at its place, by the kind of that
   data Placed (before attempt : Tree) (wanted found : Option Kind) (r : Reply) (after : Tree) : Type 0 where
@@ -45,12 +46,12 @@ module _ (g : Grammar) (limit : ℕ) (text_of : Tree → List ℕ) where
   to_nowhere before to None = (refl, refl)
   to_nowhere before to (Some new) = (refl, refl)
 
-  of_change : (attempts attempts' : List Tree) (before : Tree) (c : Change) (r : Reply) (after : Tree) → EditStep g limit text_of never_full attempts before c r attempts' after → OfChange before c r after
-  of_change a b before c r after (put_nowhere place kind new e) =
+  of_change : (earlier attempts : List Attempt) (before : Tree) (c : Change) (r : Reply) (after : Tree) → EditStep g limit text_of never_full earlier before c r attempts after → OfChange before c r after
+  of_change a b before c r after (put_nowhere place kind new fit e) =
       subst (λ (o : Option Tree). OfPlace before (replaced before place new) (Some kind) o bad_path before) (sym e) (refl, refl)
-  of_change a b before c r after (put_other_kind place kind new old e n) =
+  of_change a b before c r after (put_other_kind place kind new old fit e n) =
       subst (λ (o : Option Tree). OfPlace before (replaced before place new) (Some kind) o wrong_sort before) (sym e) (other n refl refl)
-  of_change a b before c r after (puts place kind new old reply after' e is attempt) =
+  of_change a b before c r after (puts place kind new old reply after' fit e is attempt) =
       subst (λ (o : Option Tree). OfPlace before (replaced before place new) (Some kind) o reply after') (sym e) (same is (answers _ before _ reply after' attempt))
   of_change a b before c r after (copy_from_nowhere from to e) =
       subst (λ (o : Option Tree). OfCopy before to o (at_place before to) bad_path before) (sym e) (refl, refl)
@@ -70,14 +71,14 @@ module _ (g : Grammar) (limit : ℕ) (text_of : Tree → List ℕ) where
   OfChanges [] before rs last = (rs ≡ []) × (last ≡ before)
   OfChanges (c ∷ cs) before rs last = (r : Reply) × (after : Tree) × (rest : List Reply) × (rs ≡ r ∷ rest) × OfChange before c r after × OfChanges cs after rest last
 
-  of_changes : (attempts : List Tree) (before : Tree) (cs : List Change) (rs : List Reply) (last : Tree) → EditRun g limit text_of never_full attempts before cs rs last → OfChanges cs before rs last
-  of_changes attempts before cs rs last (done a t) = (refl, refl)
-  of_changes attempts before cs rs last (then a t c r b after rest rs' l step run) = (r, after, rs', refl, of_change a b t c r after step, of_changes b after rest rs' l run)
+  of_changes : (earlier all : List Attempt) (before : Tree) (cs : List Change) (rs : List Reply) (last : Tree) → EditRun g limit text_of never_full earlier before cs rs last all → OfChanges cs before rs last
+  of_changes earlier all before cs rs last (done a t) = (refl, refl)
+  of_changes earlier all before cs rs last (then a t c r b after rest rs' l m step run) = (r, after, rs', refl, of_change a b t c r after step, of_changes b m after rest rs' l run)
 
   -- a session's replies, and its last tree
   data OfSession (opening : Tree) (cs : List Change) (rs : List Reply) (last : Option Tree) : Type 0 where
     opened : (vs : List Tree) (rest : List Reply) (t : Tree) → Attributes g limit opening vs → OfChanges cs opening rest t → rs ≡ values vs ∷ rest → last ≡ Some t → OfSession opening cs rs last
-    refused : ((vs : List Tree) → ¬ Attributes g limit opening vs) → rs ≡ too_deep ∷ all_unopened g limit text_of never_full cs → last ≡ None → OfSession opening cs rs last
+    refused : ((vs : List Tree) → ¬ Attributes g limit opening vs) → rs ≡ too_deep ∷ all_unopened cs → last ≡ None → OfSession opening cs rs last
 
   opening_has : (opening : Tree) (vs : List Tree) → Answers opening opening (values vs) opening → Attributes g limit opening vs
   opening_has opening vs (with ws a e f) = let same_values : vs ≡ ws = cc in subst (λ (z : List Tree). Attributes g limit opening z) (sym same_values) a
@@ -91,11 +92,11 @@ module _ (g : Grammar) (limit : ℕ) (text_of : Tree → List ℕ) where
   never_opens_full opening (with ws a e f) = absurd (cc)
   never_opens_full opening (without none e f) = absurd (cc)
 
-  of_session : (opening : Tree) (cs : List Change) (rs : List Reply) (last : Option Tree) → ReplyRun g limit text_of never_full opening cs rs last → OfSession opening cs rs last
-  of_session opening cs rs last (opens vs rest t attempt run) =
-      opened vs rest t (opening_has opening vs (answers _ opening opening _ opening attempt)) (of_changes _ opening cs rest t run) refl refl
-  of_session opening cs rs last (opens_too_deep attempt) = refused (opening_lacks opening (answers _ opening opening _ opening attempt)) refl refl
-  of_session opening cs rs last (opens_full attempt) = absurd (never_opens_full opening (answers _ opening opening _ opening attempt))
+  of_session : (opening : Tree) (cs : List Change) (rs : List Reply) (last : Option Tree) (all : List Attempt) → ReplyRun g limit text_of never_full opening cs rs last all → OfSession opening cs rs last
+  of_session opening cs rs last all (opens vs rest t m attempt run) =
+      opened vs rest t (opening_has opening vs (answers _ opening opening _ opening attempt)) (of_changes _ m opening cs rest t run) refl refl
+  of_session opening cs rs last all (opens_too_deep attempt) = refused (opening_lacks opening (answers _ opening opening _ opening attempt)) refl refl
+  of_session opening cs rs last all (opens_full attempt) = absurd (never_opens_full opening (answers _ opening opening _ opening attempt))
 
   module _ (unique : AttributionsAreUnique) (w : IsTrue (is_well_formed g)) (p : IsTrue (is_plain g)) where
     same_values : (t : Tree) (vs ws : List Tree) → Attributes g limit t vs → Attributes g limit t ws → vs ≡ ws
@@ -147,7 +148,10 @@ module _ (g : Grammar) (limit : ℕ) (text_of : Tree → List ℕ) where
     one_of_session opening cs rs qs last end (refused none e f) (opened ws more u b other_run h k) = absurd (none ws b)
     one_of_session opening cs rs qs last end (refused none e f) (refused more h k) = (e ∙ sym h, f ∙ sym k)
 
-pub one_session_of : AttributionsAreUnique → (g : Grammar) (limit : ℕ) (text_of : Tree → List ℕ) (opening : Tree) (cs : List Change) (rs qs : List Reply) (last end : Option Tree) →
-    IsTrue (is_well_formed g) → IsTrue (is_plain g) → ReplyRun g limit text_of never_full opening cs rs last → ReplyRun g limit text_of never_full opening cs qs end → (rs ≡ qs) × (last ≡ end)
-one_session_of unique g limit text_of opening cs rs qs last end w p a b =
-    one_of_session g limit text_of unique w p opening cs rs qs last end (of_session g limit text_of opening cs rs last a) (of_session g limit text_of opening cs qs end b)
+pub one_session_of : AttributionsAreUnique → (g : Grammar) (limit : ℕ) (text_of : Tree → List ℕ) (opening : Tree) (cs : List Change) (rs qs : List Reply) (last end : Option Tree) (all others : List Attempt) →
+    IsTrue (is_well_formed g) → IsTrue (is_plain g) → ReplyRun g limit text_of never_full opening cs rs last all → ReplyRun g limit text_of never_full opening cs qs end others → (rs ≡ qs) × (last ≡ end) × (all ≡ others)
+one_session_of unique g limit text_of opening cs rs qs last end all others w p a b =
+    let same = one_of_session g limit text_of unique w p opening cs rs qs last end (of_session g limit text_of opening cs rs last all a) (of_session g limit text_of opening cs qs end others b) in
+    let here = (replies_tell g limit text_of never_full opening cs rs last all a).1 in
+    let there = (replies_tell g limit text_of never_full opening cs qs end others b).1 in
+    (same.0, same.1, here ∙ ap (attempts_of opening cs) same.0 ∙ sym there)

@@ -8,7 +8,7 @@ use Rattle.lrc_meaning.specs.Tree.{Tree, int, tree, fits}
 use Rattle.lrc_meaning.specs.Grammar.{Grammar, is_well_formed}
 use Rattle.lrc_meaning.specs.Plain.{is_plain}
 use Rattle.lrc_meaning.specs.Editing as meaning
-use Rattle.lrc_meaning.specs.Editing.{Change, change, Attempted, EditStep, ReplyRun, never_full}
+use Rattle.lrc_meaning.specs.Editing.{Change, change, Attempt, Attempted, EditStep, ReplyRun, never_full}
 use Rattle.lrc_script.specs.declared.reply.Reply.{Reply}
 use Rattle.lrc_script.specs.declared.reply.Reply.TheVariants as r
 use Rattle.lrc_script.specs.declared.reply.Replies.{Replies}
@@ -34,21 +34,23 @@ are_fitting_puts prods edits = list_all (is_fitting_put prods) edits
 -- what an attempt is answered, and the tree after it, whatever was attempted before
 abbrev pub IsAttempted : Grammar → ℕ → Tree → Tree → meaning.Reply → Tree → Type 0
 IsAttempted g limit before attempt reply after =
-    (text_of : Tree → List ℕ) (attempts : List Tree) → Attempted g limit text_of never_full attempts before attempt reply after
+    (text_of : Tree → List ℕ) (earlier : List Attempt) → Attempted g limit text_of never_full earlier before attempt reply after
 
 -- what a change is answered, and the tree after it, whatever was attempted before
 abbrev pub IsAnswered : Grammar → ℕ → Tree → Change → meaning.Reply → Tree → Type 0
 IsAnswered g limit before c reply after =
-    (text_of : Tree → List ℕ) (attempts : List Tree) → (attempts' : List Tree) × EditStep g limit text_of never_full attempts before c reply attempts' after
+    (text_of : Tree → List ℕ) (earlier : List Attempt) → (attempts : List Attempt) × EditStep g limit text_of never_full earlier before c reply attempts after
 
 -- The replies and the last tree are those of the session that opens with the tree and has these edits; no tree is
 -- shown in it, so trees may have any text.
 abbrev pub IsSessionOf : Grammar → ℕ → Tree → List Edit → Replies → Type 0
 IsSessionOf g limit opening edits all =
-    (text_of : Tree → List ℕ) → ReplyRun g limit text_of never_full opening (map change edits) (map reply_of all.replies) (option_map tree all.last)
+    (text_of : Tree → List ℕ) → (attempts : List Attempt) × ReplyRun g limit text_of never_full opening (map change edits) (map reply_of all.replies) (option_map tree all.last) attempts
 
--- over a well-formed plain grammar the replies of a session and its last tree are fixed by its tree and its changes
+-- over a well-formed plain grammar the replies of a session, its last tree and its attempts are fixed by its tree and its
+-- changes
 abbrev pub SessionsAreUnique : Type 0
 SessionsAreUnique =
-    (g : Grammar) (limit : ℕ) (text_of : Tree → List ℕ) (opening : Tree) (changes : List Change) (rs qs : List meaning.Reply) (last end : Option Tree) →
-    IsTrue (is_well_formed g) → IsTrue (is_plain g) → ReplyRun g limit text_of never_full opening changes rs last → ReplyRun g limit text_of never_full opening changes qs end → (rs ≡ qs) × (last ≡ end)
+    (g : Grammar) (limit : ℕ) (text_of : Tree → List ℕ) (opening : Tree) (changes : List Change) (rs qs : List meaning.Reply) (last end : Option Tree) (all others : List Attempt) →
+    IsTrue (is_well_formed g) → IsTrue (is_plain g) → ReplyRun g limit text_of never_full opening changes rs last all → ReplyRun g limit text_of never_full opening changes qs end others
+    → (rs ≡ qs) × (last ≡ end) × (all ≡ others)

@@ -21,6 +21,7 @@ fn refused(
     limit: u32,
 ) -> Result<Replies, Memory>
     requires plain { IsTrue (is_plain (grammar_of grammar.now)) }
+    requires fitting { IsTrue (fits grammar.now.prods (tree opening.now) (k.Sort grammar.now.start)) }
     requires deep { limit < tree_height (tree opening.now) }
     ensures { IfOk result (λ all. IsSessionOf (grammar_of grammar.now) limit (tree opening.now) edits.now all) }
 {

@@ -5,6 +5,7 @@ use Rattle.lrc_meaning.proofs.three_nodes_have_their_sum.Goals as goal
 
 pub returns : goal.returns
 returns c = record {
+  fitting = refl;
   attribution = decorated_sum 3;
   is_attribution = record { is_bare = refl; is_right = sum_is_right };
   within = lit≤ tt;

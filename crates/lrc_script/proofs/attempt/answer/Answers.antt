@@ -23,7 +23,7 @@ returns-in-Ok-clause-answer c =
     IfOk-weaker c.attempted.result _ _
     (λ reply a.
     answered_put (grammar_of c.args.grammar.now) c.args.limit (tree c.args.current.now) (tree c.replace.new.term) (tree c.attempted.new.current) (change c.args.edit.now) c.in-Put.path.steps c.in-Put.kind
-    (tree c.in-Put.term) (reply_of reply) (ap change c.in-Put.is) c.in-Ok.ensures.fits c.in-Ok.ensures.ok
+    (tree c.in-Put.term) (reply_of reply) (ap change c.in-Put.is) (subst (λ e. IsTrue (is_fitting_put c.args.grammar.now.prods e)) c.in-Put.is c.requires.put) c.in-Ok.ensures.fits c.in-Ok.ensures.ok
     (subst (λ before. IsAttempted (grammar_of c.args.grammar.now) c.args.limit before (tree c.replace.new.term) (reply_of reply) (tree c.attempted.new.current))
     (before_is (tree c.args.current.now) (tree c.replace.new.term) (tree c.in-Put.term) (tree c.in-Ok.old) c.in-Put.path.steps c.in-Ok.ensures.ok c.in-Ok.ensures.old) a))
     c.attempted.ensures
@@ -45,6 +45,7 @@ returns-in-Err-BadPath-clause-answer c =
     subst (λ after. IsAnswered (grammar_of c.args.grammar.now) c.args.limit (tree c.args.current.now) (change c.args.edit.now) bad_path (tree after))
     (sym (c.in-Err-BadPath.ensures.bad_path_kept (ap Err c.in-Err-BadPath.field-0-is)))
     (answered_nowhere (grammar_of c.args.grammar.now) c.args.limit (tree c.args.current.now) (change c.args.edit.now) c.in-Put.path.steps c.in-Put.kind (tree c.in-Put.term) (ap change c.in-Put.is)
+    (subst (λ e. IsTrue (is_fitting_put c.args.grammar.now.prods e)) c.in-Put.is c.requires.put)
     (c.in-Err-BadPath.ensures.bad_path.0 (ap Err c.in-Err-BadPath.field-0-is)))
 
 pub returns-in-Err-WrongSort-clause-answer : goal.returns-in-Err-WrongSort-clause-answer
@@ -52,4 +53,5 @@ returns-in-Err-WrongSort-clause-answer c =
     subst (λ after. IsAnswered (grammar_of c.args.grammar.now) c.args.limit (tree c.args.current.now) (change c.args.edit.now) wrong_sort (tree after))
     (sym (c.in-Err-WrongSort.ensures.wrong_sort_kept (ap Err c.in-Err-WrongSort.field-0-is)))
     (answered_other (grammar_of c.args.grammar.now) c.args.limit (tree c.args.current.now) (change c.args.edit.now) c.in-Put.path.steps c.in-Put.kind (tree c.in-Put.term) (ap change c.in-Put.is)
+    (subst (λ e. IsTrue (is_fitting_put c.args.grammar.now.prods e)) c.in-Put.is c.requires.put)
     (c.in-Err-WrongSort.ensures.wrong_sort.0 (ap Err c.in-Err-WrongSort.field-0-is)))

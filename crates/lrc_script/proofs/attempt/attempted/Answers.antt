@@ -10,7 +10,7 @@ pub returns-then-not-is_within : goal.returns-then-not-is_within
 returns-then-not-is_within c =
     let before = replaced (tree c.args.current.now) c.args.path.now.steps (tree c.args.old) in
     subst (λ after. IsAttempted (grammar_of c.args.grammar.now) c.args.limit before (tree c.args.current.now) too_deep after) (sym c.in_ok-exchange.ensures.tree)
-    (refused_attempt c.plain_attributions.ensures.higher (grammar_of c.args.grammar.now) c.args.limit before (tree c.args.current.now) c.args.grammar.now.ok c.requires.plain
+    (refused_attempt c.plain_attributions.ensures.higher (grammar_of c.args.grammar.now) c.args.limit before (tree c.args.current.now) c.args.grammar.now.ok c.requires.plain c.requires.fitting
     (above c.is_within.result (tree_height (tree c.args.current.now)) c.args.limit c.is_within.ensures c.if-not-is_within.true))
 
 pub returns : goal.returns
