@@ -2,4 +2,5 @@ pub mod TreeLemmas
 pub mod ExpressionLemmas
 pub mod ExampleLemmas
 pub mod ListLemmas
+pub mod NodeLemmas
 pub mod KindLemmas
