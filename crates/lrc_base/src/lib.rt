@@ -7,6 +7,7 @@
 mod expr;
 mod grammar;
 mod job;
+pub mod limits;
 mod name;
 mod raw;
 mod term;

@@ -1,15 +1,13 @@
 ghost use Rattle.std.specs.Prelude.{◌≡◌, ℕ, ◌<◌, ◌≤◌, ◌↔◌, List, length, IsTrue, MatchOption};
 ghost use Rattle.lrc_base.specs.Name.{IsName};
 
+use crate::limits::NAME_LIMIT;
 use std::marker::Model;
-
-/// The most bytes of a name.
-pub const NAME_LIMIT: usize = 64;
 
 /// A name: 1 to 64 bytes, none of them 0. Contracts see it as the list of its bytes.
 #[derive(Debug)]
 pub struct NameText {
-    padded: [u8; 64],
+    padded: [u8; NAME_LIMIT],
     len: usize,
 }
 

@@ -5,4 +5,5 @@ pub mod ScopeLemmas
 pub mod FoundLemmas
 pub mod ArgumentLemmas
 pub mod MissingLemmas
+pub mod NodeLemmas
 pub mod LimitLemmas

@@ -8,21 +8,21 @@ use lrc_base::{Memory, NameText};
 #[derive(Debug, Clone, Copy, PartialEq, Eq)]
 pub enum GrammarKind {
     /// A name stands a second time.
-    Twice,
+    Twice = 1,
     /// Nothing has the name.
-    Unknown,
+    Unknown = 2,
     /// An occurrence to be defined has no equation.
-    MissingEquation,
+    MissingEquation = 3,
     /// A target has a second equation.
-    DoubleEquation,
+    DoubleEquation = 4,
     /// What is read or defined is not read or defined by equations in normal form.
-    NotNormal,
+    NotNormal = 5,
     /// A value is of another kind than is needed.
-    WrongKind,
+    WrongKind = 6,
     /// The start sort has an inherited attribute.
-    StartInherits,
+    StartInherits = 7,
     /// Want of memory.
-    Memory,
+    Memory = 8,
 }
 
 /// A fault of a grammar: where it stands, and the name at fault.

@@ -5,6 +5,7 @@ use Rattle.std.proofs.lemmas.Grind.{common_steps}
 use Rattle.std.specs.Prelude.{String}
 use Rattle.std.specs.declared.alloc.Global.{Global}
 use Rattle.std.specs.Io.KnownBytes.{Appends, Keeps, Consumes}
+use Rattle.lrc_base.specs.declared.limits.TheConstants.{ROW_LIMIT, TEXT_LIMIT}
 use Rattle.lrc_outside.specs.Known.{TakesUpTo, LosesUpTo, AppendsPart}
 use Rattle.lrc_words.specs.declared.command.Command.{Command}
 use Rattle.lrc_words.specs.declared.command.Verb.{Verb}
@@ -125,10 +126,10 @@ read_whole n (Some xs) left' input t h =
     (t.0 ∙ grind (arith, common_steps), t.1 ∙ ap Some (drop_all n xs short))
 
 short_output : (v : Verb) (depth : ℕ) (input text : List ℕ) → IsOutputOf v depth input text → length input < input_limit
-short_output verb.Run depth input text r = let short : length input ≤ 16777216 = r.built.accepted.denotes.short in omega arith
+short_output verb.Run depth input text r = let short : length input ≤ TEXT_LIMIT = r.built.accepted.denotes.short in omega arith
 short_output verb.Solo depth input text r = absurd r
-short_output verb.Check depth input text r = let short : length input ≤ 16777216 = r.has.accepted.denotes.short in omega arith
-short_output verb.Plan depth input text r = let short : length input ≤ 16777216 = r.has.accepted.denotes.short in omega arith
+short_output verb.Check depth input text r = let short : length input ≤ TEXT_LIMIT = r.has.accepted.denotes.short in omega arith
+short_output verb.Plan depth input text r = let short : length input ≤ TEXT_LIMIT = r.has.accepted.denotes.short in omega arith
 short_output verb.Gen depth input text r = absurd r
 
 pub done : (words : List (String Global)) (left left' held held' : Option (List ℕ)) (command : Command) (input text : List ℕ) → Says (texts words) command
@@ -268,7 +269,7 @@ two_ways job g h ss fault a b =
     let there = b.sessions in
     absurd (cc)
 
-few_rows : (rows sessions : ℕ) → sessions ≡ 1 → rows ≤ 16777216 → row_limit < rows * sessions → ⊥
+few_rows : (rows sessions : ℕ) → sessions ≡ 1 → rows ≤ ROW_LIMIT → row_limit < rows * sessions → ⊥
 few_rows rows sessions one few many = let product : rows * sessions ≡ rows = ap (λ (n : ℕ). rows * n) one ∙ omega arith in absurd (omega arith)
 
 -- a job with sessions has no fault
@@ -325,7 +326,7 @@ not_refused_for one command bytes verb.Plan is h failure within r cause = order_
 not_refused_for one command bytes verb.Gen is h failure within r cause = h
 
 -- a job for which there is something to print is short
-short_job : (v : Verb) (bytes : List ℕ) → IsBuiltFor v bytes → length bytes ≤ 16777216
+short_job : (v : Verb) (bytes : List ℕ) → IsBuiltFor v bytes → length bytes ≤ TEXT_LIMIT
 short_job verb.Run bytes h = h.3.accepted.denotes.short
 short_job verb.Solo bytes h = absurd h
 short_job verb.Check bytes h = h.2.denotes.short

@@ -1,6 +1,7 @@
 -- Why a job is refused, in the order in which faults are looked for: its text, its acceptance, the rows of its
 -- sessions, what is not built yet, and for commands that ask for it the ordered test before that.
 use Rattle.std.specs.Prelude.{◌≡◌, ◌≢◌, ◌⊎◌, ℕ, ◌*◌, ◌<◌, ◌≤◌, Bool, true, false, List, [], length, Some, slice_get}
+use Rattle.lrc_base.specs.declared.limits.TheConstants.{ROW_LIMIT}
 use Rattle.lrc_base.specs.declared.job.Job.{Job}
 use Rattle.lrc_base.specs.declared.grammar.Production.{Production}
 use Rattle.lrc_meaning.specs.Tree.{Tree}
@@ -25,7 +26,7 @@ use Rattle.lrc_cli.specs.Headline.{IsAccepted, IsBuilt}
 
 -- the most rows of all sessions together
 abbrev pub row_limit : ℕ
-row_limit = 16777216
+row_limit = ROW_LIMIT
 
 -- the production and the occurrence of these numbers, by their names
 pub record IsNamed (g : Grammar) (production occurrence : ℕ) (cycle : Cycle) : Type 0 where

@@ -2,6 +2,7 @@
 use Rattle.std.specs.Prelude.{◌≡◌, ℕ, Bool, true, false, List, [], Option, Some, None, ⊤, String}
 use Rattle.std.specs.declared.alloc.Global.{Global}
 use Rattle.std.specs.Io.KnownBytes.{Appends, Keeps}
+use Rattle.lrc_base.specs.declared.limits.TheConstants.{TEXT_LIMIT}
 use Rattle.lrc_outside.specs.Known.{TakesUpTo, AppendsPart}
 use Rattle.lrc_words.specs.declared.command.Command.{Command}
 use Rattle.lrc_words.specs.CommandLine.{Says, IsWithinRanges, texts}
@@ -12,7 +13,7 @@ use Rattle.lrc_cli.specs.Causes.{IsUnbuilt, IsBuiltVerb, IsCause}
 
 -- the most bytes that are read: one more than a job has
 abbrev pub input_limit : ℕ
-input_limit = 16777217
+input_limit = 1 + TEXT_LIMIT
 
 -- the input is all the bytes that a source had left, where it tells them, and it is at its end
 abbrev pub IsReadWhole : Option (List ℕ) → Option (List ℕ) → List ℕ → Type 0

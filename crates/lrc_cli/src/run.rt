@@ -15,6 +15,7 @@ ghost use Rattle.lrc_cli.specs.Running.{IsPlainSession};
 
 use crate::job::accepted_job;
 use crate::text::session_text;
+use lrc_base::limits::ROW_LIMIT;
 use lrc_base::{Edit, Memory, Script};
 use lrc_failures::Failure;
 use lrc_grammar::attrs_of_sort;
@@ -24,14 +25,11 @@ use lrc_script::{one_session, replies};
 use lrc_words::Command;
 use std::alloc::Global;
 
-/// The most rows of all sessions together.
-const ROW_LIMIT: u64 = 16_777_216;
-
 /// Whether sessions of so many rows each have more than a table has.
 fn are_rows_too_many(rows: u32, sessions: usize) -> bool
     ensures { IsTrue result ↔ row_limit < rows * sessions }
 {
-    u64::from(rows).saturating_mul(sessions as u64) > ROW_LIMIT
+    u64::from(rows).saturating_mul(sessions as u64) > u64::from(ROW_LIMIT)
 }
 
 fn is_put(edit: &Edit) -> bool

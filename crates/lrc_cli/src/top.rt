@@ -14,6 +14,7 @@ ghost use Rattle.lrc_cli.specs.Status.{Done, Unwritten, Refused, HoldsJob, is_re
 
 use crate::order::{partitions, sequences};
 use crate::run::{one_text, run_text};
+use lrc_base::limits::TEXT_LIMIT;
 use lrc_base::{Bytes, List};
 use lrc_failures::{Failure, put_line};
 use lrc_outside::{Sink, Source, put_all, take_up_to};
@@ -23,7 +24,7 @@ use std::alloc::Global;
 use std::thread::Threads;
 
 /// The most bytes that are read: one more than a job may have.
-const INPUT_LIMIT: usize = 16_777_217;
+const INPUT_LIMIT: usize = TEXT_LIMIT + 1;
 
 /// What the words ask for.
 ///

@@ -1,4 +1,1 @@
 pub mod FittingLemmas
-pub mod KindLemmas
-pub mod NameLemmas
-pub mod ListLemmas

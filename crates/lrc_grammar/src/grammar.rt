@@ -1,15 +1,13 @@
-ghost use Rattle.std.specs.Prelude.{◌≡◌, ◌↔◌, IsTrue, IsSome, IfSome, IfOk};
+ghost use Rattle.std.specs.Prelude.{◌≡◌, IsTrue, IfOk};
 ghost use Rattle.lrc_meaning.specs.Grammar.{is_well_formed};
-ghost use Rattle.lrc_grammar.specs.Limits.{keeps_limits};
+ghost use Rattle.lrc_meaning.specs.Limits.{IsWithinLimits};
 
-use crate::checks::is_well_formed;
 use crate::copies::{copied_productions, copied_sorts};
-use crate::limits::keeps_limits;
 use crate::plain::{are_productions_plain, are_sorts_plain};
 use lrc_base::{List, Memory, Production, Sort};
 use std::alloc::Global;
 
-/// A well-formed grammar that keeps the limits: sorts, productions, and the number of the start sort.
+/// A well-formed grammar within the limits: sorts, productions, and the number of the start sort.
 /// Sorts, productions, children and attributes are numbered from 0 in order of declaration.
 #[derive(Debug, Drop)]
 pub struct Grammar {
@@ -17,34 +15,12 @@ pub struct Grammar {
     pub prods: List<Production>,
     pub start: u32,
     pub ghost ok: { IsTrue (is_well_formed (record { sorts = sorts; prods = prods; start = start })) },
-    pub ghost few: { IsTrue (keeps_limits (record { sorts = sorts; prods = prods; start = start })) },
+    pub ghost few: { IsWithinLimits (record { sorts = sorts; prods = prods; start = start }) },
 }
 
 impl Grammar {
     ghost use Rattle.lrc_meaning.specs.Plain.{is_plain};
     ghost use Rattle.lrc_grammar.specs.Grammar.{grammar_of};
-
-    /// The grammar of these parts; None where they are not well formed or beyond the limits.
-    pub fn new(
-        alloc: Global,
-        sorts: List<Sort>,
-        prods: List<Production>,
-        start: u32,
-    ) -> Result<Option<Grammar>, Memory>
-        ensures some { IfOk result (λ made. IsSome made ↔ (IsTrue (is_well_formed (record { sorts = sorts; prods = prods; start = start })) × IsTrue (keeps_limits (record { sorts = sorts; prods = prods; start = start })))) }
-        ensures value { IfOk result (λ made. IfSome made (λ g. grammar_of g ≡ record { sorts = sorts; prods = prods; start = start })) }
-    {
-        if keeps_limits(sorts.as_slice(), prods.as_slice())
-            && is_well_formed(alloc, sorts.as_slice(), prods.as_slice(), start)?
-        {
-            return Ok(Some(Grammar {
-                sorts,
-                prods,
-                start,
-            }));
-        }
-        Ok(None)
-    }
 
     /// An equal grammar, with memory of its own.
     ///

@@ -1,19 +1,14 @@
-//! Well-formed grammars, and terms that fit their productions.
+//! Well-formed grammars within the limits, and their occurrences.
 #![tactic(auto)]
 
-mod checks;
 mod copies;
 mod fitting;
 mod grammar;
 mod kinds;
-mod limits;
-mod names;
 mod occurrences;
 mod plain;
-mod production_checks;
 
-pub use fitting::{fits, is_within, same_kind};
+pub use fitting::{is_within, same_kind};
 pub use grammar::Grammar;
-pub use kinds::{expression_kind, is_sort};
-pub use limits::keeps_limits;
+pub use kinds::is_sort;
 pub use occurrences::{Occurrence, attrs_of, attrs_of_sort, occurrences_of};

@@ -1,9 +1,8 @@
 -- The equations of `resolved`, one for each variant, and what is found of terms one by one.
-use Rattle.std.proofs.Common.{◌≡◌, ℕ, zero, suc, ℤ, ◌≤◌, Bool, true, false, ◌&&◌, nat_le, List, [], ◌∷◌, ◌++◌, map, length, Result, Ok, refl, sym, ap, ◌∙◌, arith}
-use Rattle.std.proofs.lemmas.Bool.Decides.{nat_tests}
-use Rattle.std.specs.List.{list_all}
-use Rattle.lrc_meaning.specs.Grammar.{Grammar}
-use Rattle.lrc_grammar.specs.Limits.{has_few_attributes, has_few_parts, keeps_limits}
+use Rattle.std.proofs.Common.{◌≡◌, ℕ, zero, suc, ℤ, ◌≤◌, Bool, List, [], ◌∷◌, ◌++◌, All, map, length, Result, Ok, refl, sym, ap, ◌∙◌, arith}
+use Rattle.std.proofs.lemmas.List.Elements.{All-head, All-tail}
+use Rattle.lrc_base.specs.declared.limits.TheConstants.{CHILD_LIMIT}
+use Rattle.lrc_meaning.specs.Limits.{IsFew}
 use Rattle.lrc_base.specs.declared.grammar.Production.{Production}
 use Rattle.lrc_base.specs.declared.raw.RawTerm.{RawTerm, RawTerm-F, fold-roll-RawTerm}
 use Rattle.lrc_base.specs.declared.raw.RawTerm.TheVariants as t
@@ -36,23 +35,8 @@ pub ruleset resolved_equations = (resolved_Int, resolved_Bool, resolved_Name, re
 abbrev pub then_rest : {A E : Type 0} → List A → Result (List A) E → Result (List A) E
 then_rest done rest = map_ok (λ r. done ++ r) rest
 
--- a production of few parts has few children
-few_here : (b c d : Bool) (m n : ℕ) → nat_le m n ≡ b → ((b && c) && d) ≡ true → (m ≤ n) × (d ≡ true)
-few_here true true d m n le e = (grind (arith, nat_tests), e)
-few_here true false d m n le e = absurd (cc)
-few_here false c d m n le e = absurd (cc)
-
-pub few_kids : (prods : List Production) (p : ℕ) → list_all has_few_parts prods ≡ true → length (kids_of prods p) ≤ 8
+-- a production within the limits has few children
+pub few_kids : (prods : List Production) (p : ℕ) → All IsFew prods → length (kids_of prods p) ≤ CHILD_LIMIT
 few_kids [] p few = omega arith
-few_kids (q ∷ prods) zero few = (few_here (nat_le (length q.kids) 8) (nat_le (length q.extras) 16) (list_all has_few_parts prods) (length q.kids) 8 refl few).0
-few_kids (q ∷ prods) (suc p) few = few_kids prods p (few_here (nat_le (length q.kids) 8) (nat_le (length q.extras) 16) (list_all has_few_parts prods) (length q.kids) 8 refl few).1
-
--- a grammar within the limits has few productions, of few parts
-pub few_productions : (g : Grammar) → keeps_limits g ≡ true → (length g.prods ≤ 256) × (list_all has_few_parts g.prods ≡ true)
-few_productions g few =
-    by (nat_le (length g.sorts) 64 && list_all has_few_attributes g.sorts) (nat_le (length g.prods) 256) refl few
-  where
-    by : (a b : Bool) → nat_le (length g.prods) 256 ≡ b → (a && (b && list_all has_few_parts g.prods)) ≡ true → (length g.prods ≤ 256) × (list_all has_few_parts g.prods ≡ true)
-    by true true le e = (grind (arith, nat_tests), e)
-    by true false le e = absurd (cc)
-    by false b le e = absurd (cc)
+few_kids (q ∷ prods) zero few = (All-head IsFew q prods few).kids
+few_kids (q ∷ prods) (suc p) few = few_kids prods p (All-tail IsFew q prods few)

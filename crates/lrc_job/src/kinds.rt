@@ -1,9 +1,9 @@
-ghost use Rattle.std.specs.Prelude.{◌≡◌, ◌≤◌, ◌<◌, ◌^◌, length, map, IsTrue};
-ghost use Rattle.lrc_grammar.specs.Limits.{has_few_parts};
-ghost use Rattle.std.specs.List.{list_all};
+ghost use Rattle.std.specs.Prelude.{◌≡◌, ◌≤◌, ◌<◌, ◌^◌, length, map, All};
+ghost use Rattle.lrc_meaning.specs.Limits.{IsFew};
 ghost use Rattle.lrc_meaning.specs.Tree.{tree, kids_of, kind_of};
 ghost use Rattle.lrc_job.specs.Resolved.{is_of_kind, first_unlike};
 
+use lrc_base::limits::CHILD_LIMIT;
 use lrc_base::{Kid, Kind, Production, Term};
 use lrc_grammar::same_kind;
 use sqlite_items::at;
@@ -27,9 +27,9 @@ pub fn kind_of(prods: &[Production], term: &Term) -> Option<Kind>
 
 /// The children of the production of this number; none where there is no such production.
 pub fn kids_of(prods: &[Production], number: u32) -> &[Kid]
-    requires { IsTrue (list_all has_few_parts prods.now) }
+    requires { All IsFew prods.now }
     ensures kids { result.now ≡ kids_of prods.now number }
-    ensures few { length result.now ≤ 8 }
+    ensures few { length result.now ≤ CHILD_LIMIT }
 {
     match at(prods, number as usize) {
         Some(production) => production.kids.as_slice(),
@@ -50,7 +50,7 @@ fn is_of_kind(needed: Kind, found: Option<Kind>) -> bool
 /// The number of the first term of another kind than its child.
 pub fn first_unlike(prods: &[Production], terms: &[Term], kids: &[Kid]) -> Option<u32>
     requires number { length terms.now ≡ length kids.now }
-    requires few { length kids.now ≤ 8 }
+    requires few { length kids.now ≤ CHILD_LIMIT }
     ensures { result ≡ first_unlike prods.now 0 (map tree terms.now) kids.now }
 {
     for i in 0..terms.len() {

@@ -1,6 +1,5 @@
-ghost use Rattle.std.specs.Prelude.{◌≡◌, ◌≤◌, ◌++◌, [], ◌∷◌, length, map, IsTrue, OnOk, IfOk};
-ghost use Rattle.lrc_grammar.specs.Limits.{has_few_parts};
-ghost use Rattle.std.specs.List.{list_all};
+ghost use Rattle.std.specs.Prelude.{◌≡◌, ◌≤◌, ◌++◌, [], ◌∷◌, length, map, All, OnOk, IfOk};
+ghost use Rattle.lrc_meaning.specs.Limits.{IsFew};
 ghost use Rattle.lrc_meaning.specs.Tree.{tree};
 ghost use Rattle.lrc_meaning.specs.Naming.{production_number};
 ghost use Rattle.lrc_job.specs.TermLaws.{NamesFitting};
@@ -8,6 +7,7 @@ ghost use Rattle.lrc_job.specs.Resolved.{each_ok, node_of, resolved, IsTerm, Are
 
 use crate::kinds::{first_unlike, kids_of, kind_of};
 use crate::term_fault::TermFault;
+use lrc_base::limits::PRODUCTION_LIMIT;
 use lrc_base::{Boxed, Kind, List, Memory, NameText, Production, RawTerm, Term};
 use lrc_grammar::Grammar;
 use lrc_naming::production_number;
@@ -15,8 +15,8 @@ use std::alloc::Global;
 
 /// A node over terms that are right.
 fn node(prods: &[Production], name: NameText, terms: List<Term>) -> Result<Term, TermFault>
-    requires prods { length prods.now ≤ 256 }
-    requires parts { IsTrue (list_all has_few_parts prods.now) }
+    requires prods { length prods.now ≤ PRODUCTION_LIMIT }
+    requires parts { All IsFew prods.now }
     ensures { IsTerm (node_of prods.now name (production_number prods.now name) (map tree terms)) result }
 {
     let Some(number) = production_number(prods, name) else {
@@ -42,8 +42,8 @@ fn push_term(terms: &mut Vec<Term>, term: Term) -> Result<(), Memory>
 #[cycle(resolve)]
 #[tactic(auto, using(crate::proofs::ResolvedLemmas::resolved_equations, lrc_meaning::proofs::TreeLemmas::tree_equations))]
 fn term_of(alloc: Global, prods: &[Production], raw: &RawTerm) -> Result<Term, TermFault>
-    requires prods { length prods.now ≤ 256 }
-    requires parts { IsTrue (list_all has_few_parts prods.now) }
+    requires prods { length prods.now ≤ PRODUCTION_LIMIT }
+    requires parts { All IsFew prods.now }
     ensures { IsTerm (resolved prods.now raw.now) result }
 {
     match raw {
@@ -59,8 +59,8 @@ fn term_of(alloc: Global, prods: &[Production], raw: &RawTerm) -> Result<Term, T
 
 #[cycle(resolve)]
 fn terms_of(alloc: Global, prods: &[Production], raw: &[RawTerm]) -> Result<List<Term>, TermFault>
-    requires prods { length prods.now ≤ 256 }
-    requires parts { IsTrue (list_all has_few_parts prods.now) }
+    requires prods { length prods.now ≤ PRODUCTION_LIMIT }
+    requires parts { All IsFew prods.now }
     ensures { AreTerms (each_ok (map (resolved prods.now) raw.now)) result }
 {
     let mut terms = Vec::with_capacity(alloc, raw.len())?;

@@ -1,6 +1,6 @@
 use lrc_base::{Memory, NameText};
 
-/// Why a term as it is written is none over a grammar's productions.
+/// Why a term as it is written is none over a grammar's productions, numbered from 1 in this order.
 #[derive(Debug, Clone, Copy, PartialEq, Eq)]
 pub enum TermFault {
     /// No production has this name.

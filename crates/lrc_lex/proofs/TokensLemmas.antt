@@ -6,6 +6,7 @@ use Rattle.std.proofs.lemmas.Bool.{leb-true, false≢true, cases_lt}
 use Rattle.std.proofs.lemmas.List.{append-nil, take_all, drop-drop}
 use Rattle.std.proofs.lemmas.List.Elements.{All-nil, All-cons}
 use Rattle.std.proofs.lemmas.Str.{IsUtf8-nil, IsUtf8-from_is_utf8, is_utf8-from_IsUtf8, utf8_valid_len-IsUtf8, utf8_valid_len-IsValidUpTo}
+use Rattle.lrc_base.specs.declared.limits.TheConstants.{NAME_LIMIT}
 use Rattle.lrc_base.specs.Name.{IsName}
 use Rattle.lrc_lex.specs.declared.TokenClass.{TokenClass}
 use Rattle.lrc_lex.specs.declared.TokenClass.TheVariants.{Word, Natural, Negative, NameLit, Text, Path, Symbol}
@@ -49,11 +50,11 @@ record Fitting (class : TokenClass) (bytes : List ℕ) : Type 0 where
   negative : class ≡ Negative → IsNegative bytes
   path : class ≡ Path → are_steps_small bytes ≡ true
 
-word_name : (bytes : List ℕ) → IsWord bytes → length bytes ≤ 64 → IsName bytes
+word_name : (bytes : List ℕ) → IsWord bytes → length bytes ≤ NAME_LIMIT → IsName bytes
 word_name bytes word short = record { some = word_some bytes word; at_most = short; no_zero = no_zero_word bytes word }
 
 fitting : (class : TokenClass) (bytes : List ℕ) → IsToken class bytes → fits class bytes ≡ true → Fitting class bytes
-fitting Word bytes h fit = record { name = λ _. word_name bytes h (leb-true _ 64 fit); quoted = λ e. absurd cc; number = λ e. absurd cc; negative = λ e. absurd cc; path = λ e. absurd cc }
+fitting Word bytes h fit = record { name = λ _. word_name bytes h (leb-true _ NAME_LIMIT fit); quoted = λ e. absurd cc; number = λ e. absurd cc; negative = λ e. absurd cc; path = λ e. absurd cc }
 fitting Natural bytes h fit = record { name = λ e. absurd cc; quoted = λ e. absurd cc; number = λ _. record { some = h.0; digits_only = h.1; in_range = leb-true _ 9223372036854775807 fit }; negative = λ e. absurd cc; path = λ e. absurd cc }
 fitting Negative bytes h fit = record { name = λ e. absurd cc; quoted = λ e. absurd cc; number = λ e. absurd cc; negative = λ _. record { minus = h.0; some = h.1.0; digits_only = h.1.1; in_range = leb-true _ 9223372036854775808 fit }; path = λ e. absurd cc }
 fitting NameLit bytes h fit = record { name = λ e. absurd cc; quoted = λ _. word_name (drop 1 bytes) h.1 (omega (arith, length-drop 1 bytes, leb-true _ 65 fit)); number = λ e. absurd cc; negative = λ e. absurd cc; path = λ e. absurd cc }

@@ -3,6 +3,7 @@ use Rattle.std.specs.Prelude.{◌≡◌, ℕ, ◌+◌, ◌==◌, ◌≤◌, Bool
 use Rattle.std.specs.Char.{is_ascii_digit}
 use Rattle.std.specs.List.{take_while, list_all}
 use Rattle.std.specs.Str.{IsUtf8, IsValidUpTo}
+use Rattle.lrc_base.specs.declared.limits.TheConstants.{NAME_LIMIT}
 use Rattle.lrc_lex.specs.declared.TokenClass.{TokenClass}
 use Rattle.lrc_lex.specs.declared.TokenClass.TheVariants.{Word, Natural, Negative, NameLit, Text, Path, Symbol}
 use Rattle.lrc_lex.specs.declared.Token.{Token}
@@ -25,8 +26,8 @@ are_steps_small bytes = list_all (λ step. nat_le step 255) (path_steps bytes)
 
 -- a name has 64 bytes at most, a number lies from -2^63 to 2^63 - 1, and a step of a path is at most 255
 abbrev pub fits : TokenClass → List ℕ → Bool
-fits Word bytes = nat_le (length bytes) 64
-fits NameLit bytes = nat_le (length bytes) 65
+fits Word bytes = nat_le (length bytes) NAME_LIMIT
+fits NameLit bytes = nat_le (length bytes) (1 + NAME_LIMIT)
 fits Natural bytes = nat_le (natural_value bytes) 9223372036854775807
 fits Negative bytes = nat_le (natural_value (drop 1 bytes)) 9223372036854775808
 fits Path bytes = are_steps_small bytes

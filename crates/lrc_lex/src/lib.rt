@@ -17,14 +17,12 @@ mod words;
 use crate::limits::{excess, fits};
 use crate::scan::{Step, next};
 pub use decimal::{natural, negative};
+use lrc_base::limits::TEXT_LIMIT;
 use lrc_base::{List, Memory};
 pub use paths::path;
 pub use quoted::unquoted;
 use std::alloc::Global;
 use thiserror::Error;
-
-/// The most bytes of a text.
-pub const TEXT_LIMIT: usize = 16_777_216;
 
 /// What a token is.
 #[derive(Debug, Clone, Copy, PartialEq, Eq)]

@@ -5,9 +5,7 @@ ghost use Rattle.lrc_lex.specs.Tokens.{fits, excess};
 use crate::decimal::{NATURAL_LIMIT, NEGATIVE_LIMIT, value_of};
 use crate::paths::are_steps_small;
 use crate::{LexFault, TokenClass};
-
-/// The most bytes of a word.
-const WORD_LIMIT: usize = 64;
+use lrc_base::limits::NAME_LIMIT;
 
 /// Whether a token keeps the limit of its class.
 pub fn fits(class: TokenClass, spelling: &[u8]) -> bool
@@ -15,8 +13,8 @@ pub fn fits(class: TokenClass, spelling: &[u8]) -> bool
     ensures { result ≡ fits class spelling.now }
 {
     match class {
-        TokenClass::Word => spelling.len() <= WORD_LIMIT,
-        TokenClass::NameLit => spelling.len() <= 1 + WORD_LIMIT,
+        TokenClass::Word => spelling.len() <= NAME_LIMIT,
+        TokenClass::NameLit => spelling.len() <= 1 + NAME_LIMIT,
         TokenClass::Natural => value_of(spelling, NATURAL_LIMIT).is_some(),
         TokenClass::Negative => value_of(&spelling[1..], NEGATIVE_LIMIT).is_some(),
         TokenClass::Path => are_steps_small(spelling),

@@ -3,6 +3,7 @@ use Rattle.std.proofs.Common.{◌≡◌, ℕ, zero, suc, ◌+◌, ◌*◌, ◌�
 use Rattle.std.specs.Prelude.{option_map, option_and_then}
 use Rattle.std.proofs.lemmas.List.{length-map}
 use Rattle.std.proofs.lemmas.List.Sums.{sum_by-cons}
+use Rattle.lrc_base.specs.declared.limits.TheConstants.{ATTRIBUTE_LIMIT}
 use Rattle.lrc_base.specs.declared.grammar.Kind.{Kind}
 use Rattle.lrc_base.specs.declared.grammar.Kind.TheVariants as k
 use Rattle.lrc_base.specs.declared.grammar.Attr.{Attr}
@@ -17,38 +18,38 @@ use Rattle.lrc_meaning.specs.Limits.{is_declaration}
 use Rattle.lrc_meaning.specs.Naming.{each_some, named_attr, named_sort, named_extra, named_extras, called_own, called_of, called_extra, called_occurrences}
 use Rattle.lrc_naming.specs.Called.{called_of_kid, HasFewAttrs}
 
-few_of_sort : (sorts : List Sort) (s : ℕ) → All HasFewAttrs sorts → length (attrs_of_sort sorts s) ≤ 16
+few_of_sort : (sorts : List Sort) (s : ℕ) → All HasFewAttrs sorts → length (attrs_of_sort sorts s) ≤ ATTRIBUTE_LIMIT
 few_of_sort [] s few = omega arith
 few_of_sort (t ∷ ts) zero few = few 0 t (omega arith)
 few_of_sort (t ∷ ts) (suc s) few = few_of_sort ts s (λ j d lt. few (suc j) d (omega arith))
 
-few_of_kind : (sorts : List Sort) (kind : Kind) → All HasFewAttrs sorts → length (attrs_of sorts kind) ≤ 16
+few_of_kind : (sorts : List Sort) (kind : Kind) → All HasFewAttrs sorts → length (attrs_of sorts kind) ≤ ATTRIBUTE_LIMIT
 few_of_kind sorts k.Int few = omega arith
 few_of_kind sorts k.Bool few = omega arith
 few_of_kind sorts k.Name few = omega arith
 few_of_kind sorts (k.Sort s) few = few_of_sort sorts s few
 
 few_of_kids : (sorts : List Sort) (kids : List Kid) → All HasFewAttrs sorts →
-    length (flat_map (called_of_kid sorts) kids) ≤ 16 * length kids
+    length (flat_map (called_of_kid sorts) kids) ≤ ATTRIBUTE_LIMIT * length kids
 few_of_kids sorts [] few = omega arith
 few_of_kids sorts (kid ∷ kids) few =
     omega (arith, length-append (map (called_of kid.name) (attrs_of sorts kid.kind)) (flat_map (called_of_kid sorts) kids), length-map (attrs_of sorts kid.kind) (called_of kid.name), few_of_kind sorts kid.kind few, few_of_kids sorts kids few)
 
 few_of_extra : (sorts : List Sort) (x : Extra) (attached : Bool) → All HasFewAttrs sorts →
-    length (cond attached (map (called_of x.name) (attrs_of sorts x.kind)) []) ≤ 16
+    length (cond attached (map (called_of x.name) (attrs_of sorts x.kind)) []) ≤ ATTRIBUTE_LIMIT
 few_of_extra sorts x true few =
     omega (arith, length-map (attrs_of sorts x.kind) (called_of x.name), few_of_kind sorts x.kind few)
 few_of_extra sorts x false few = omega arith
 
 few_of_extras : (sorts : List Sort) (extras : List Extra) → All HasFewAttrs sorts →
-    length (flat_map (called_extra sorts) extras) ≤ 17 * length extras
+    length (flat_map (called_extra sorts) extras) ≤ (1 + ATTRIBUTE_LIMIT) * length extras
 few_of_extras sorts [] few = omega arith
 few_of_extras sorts (x ∷ extras) few =
     omega (arith, length-append (called_extra sorts x) (flat_map (called_extra sorts) extras), few_of_extra sorts x x.attached few, few_of_extras sorts extras few)
 
--- at most 16 occurrences of the left side, 16 of each child, and 17 of each local or nonterminal attribute
+-- few occurrences of the left side and of each child, and one more of each local or nonterminal attribute
 pub length-called_occurrences : (sorts : List Sort) (left : ℕ) (kids : List Kid) (extras : List Extra) → All HasFewAttrs sorts →
-    length (called_occurrences sorts left kids extras) ≤ 16 + (16 * length kids + 17 * length extras)
+    length (called_occurrences sorts left kids extras) ≤ ATTRIBUTE_LIMIT + (ATTRIBUTE_LIMIT * length kids + (1 + ATTRIBUTE_LIMIT) * length extras)
 length-called_occurrences sorts left kids extras few =
     omega (arith, length-append (map called_own (attrs_of_sort sorts left)) (flat_map (called_of_kid sorts) kids ++ flat_map (called_extra sorts) extras), length-append (flat_map (called_of_kid sorts) kids) (flat_map (called_extra sorts) extras), length-map (attrs_of_sort sorts left) called_own, few_of_sort sorts left few, few_of_kids sorts kids few, few_of_extras sorts extras few)
 
@@ -88,7 +89,7 @@ pub length-named_extras : (sorts : List RawSort) (items : List RawItem) (extras 
 length-named_extras sorts items extras e =
     length-each_some (flat_map (named_extra sorts) items) extras e ∙ length-declared sorts items
 
-few_in : (raw : List RawSort) (s : RawSort) (attrs : Option (List Attr)) (t : Sort) → length s.attrs ≤ 16 → attrs ≡ each_some (map (named_attr raw) s.attrs) →
+few_in : (raw : List RawSort) (s : RawSort) (attrs : Option (List Attr)) (t : Sort) → length s.attrs ≤ ATTRIBUTE_LIMIT → attrs ≡ each_some (map (named_attr raw) s.attrs) →
     option_map (λ as'. record { name = s.name; attrs = as' }) attrs ≡ Some t → HasFewAttrs t
 few_in raw s None t few is e = absurd (cc)
 few_in raw s (Some attrs) t few is e =
@@ -108,7 +109,7 @@ few_joined (Some t) (Some ts) sorts one more e =
     subst (λ l. All HasFewAttrs l) same (few_both t ts (one t refl) (more ts refl))
 
 -- sorts of few attributes are named as such
-pub named_sorts-few : (raw some : List RawSort) (sorts : List Sort) → All (λ (s : RawSort). length s.attrs ≤ 16) some → each_some (map (named_sort raw) some) ≡ Some sorts →
+pub named_sorts-few : (raw some : List RawSort) (sorts : List Sort) → All (λ (s : RawSort). length s.attrs ≤ ATTRIBUTE_LIMIT) some → each_some (map (named_sort raw) some) ≡ Some sorts →
     All HasFewAttrs sorts
 named_sorts-few raw [] sorts few e =
     let same : [] ≡ sorts = cc in

@@ -1,5 +1,6 @@
 -- What the occurrences of a production are called, and how many names there are.
 use Rattle.std.specs.Prelude.{ℕ, List, map, Option, Bool, true, false, bytes_eq, ◌&&◌, cond, ◌≤◌, ◌<◌, ◌^◌, length, count_by}
+use Rattle.lrc_base.specs.declared.limits.TheConstants.{ATTRIBUTE_LIMIT, CHILD_LIMIT, LOCAL_LIMIT}
 use Rattle.lrc_base.specs.declared.grammar.Attr.{Attr}
 use Rattle.lrc_base.specs.declared.grammar.Sort.{Sort}
 use Rattle.lrc_base.specs.declared.grammar.Kid.{Kid}
@@ -21,14 +22,14 @@ called_of_kid sorts kid = map (called_of kid.name) (attrs_of sorts kid.kind)
 abbrev pub is_leaf_of : List ℕ → Kid → Bool
 is_leaf_of n kid = bytes_eq kid.name n && cond (is_sort kid.kind) false true
 
--- a sort of at most 16 attributes
+-- a sort of few attributes
 abbrev pub HasFewAttrs : Sort → Type 0
-HasFewAttrs s = length s.attrs ≤ 16
+HasFewAttrs s = length s.attrs ≤ ATTRIBUTE_LIMIT
 
--- a production of at most 8 children and 16 locals and nonterminal attributes
+-- a production of few children, and few locals and nonterminal attributes
 pub record HasFewParts (p : RawProd) : Type 0 where
-  pub kids : length p.kids ≤ 8
-  pub locals : count_by is_declaration p.items ≤ 16
+  pub kids : length p.kids ≤ CHILD_LIMIT
+  pub locals : count_by is_declaration p.items ≤ LOCAL_LIMIT
 
 -- names that can be numbered
 pub record IsCounted (known : Known) : Type 0 where

@@ -6,6 +6,7 @@ ghost use Rattle.lrc_naming.specs.Numbered.{grammar};
 
 use crate::kind::{named_sort, sort_number};
 use crate::production::named_production;
+use lrc_base::limits::PRODUCTION_LIMIT;
 use lrc_base::{List, Memory, Production, RawGrammar, RawSort, Sort};
 use std::alloc::Global;
 
@@ -58,7 +59,7 @@ pub fn named_grammar(alloc: Global, raw: &RawGrammar) -> Result<Option<Numbered>
     ensures numbers { IfOk result (λ named. option_map grammar named ≡ named_grammar raw.now) }
 
     // as many productions as are written
-    ensures within { IfOk result (λ named. IfSome named (λ g. length g.prods ≤ 256)) }
+    ensures within { IfOk result (λ named. IfSome named (λ g. length g.prods ≤ PRODUCTION_LIMIT)) }
 {
     let raw_sorts = raw.sorts.as_slice();
     let Some(sorts) = named_sorts(alloc, raw_sorts)? else {

@@ -1,5 +1,5 @@
-//! From names to numbers: the grammar and the trees that are written, with each sort, production,
-//! attribute and child by its number.
+//! From names to numbers: the grammar that is written, with each sort, production, attribute and child
+//! by its number.
 #![tactic(auto)]
 
 mod equation;
@@ -7,14 +7,14 @@ mod expr;
 mod extra;
 mod grammar;
 mod kind;
+mod number;
 mod occurrence;
 mod part;
 mod pattern;
 mod production;
 mod scope;
-mod tree;
 mod written;
 
 pub use grammar::{Numbered, named_grammar};
+pub use number::production_number;
 pub use occurrence::{OccurrenceName, called_occurrences};
-pub use tree::{named_tree, production_number};

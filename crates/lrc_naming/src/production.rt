@@ -9,6 +9,7 @@ use crate::kind::{named_kids, sort_number};
 use crate::occurrence::called_occurrences;
 use crate::pattern::named_pattern;
 use crate::scope::Scope;
+use lrc_base::limits::{CHILD_LIMIT, LOCAL_LIMIT, PRODUCTION_LIMIT};
 use lrc_base::{Extra, Kid, List, Memory, Production, RawGrammar, RawProd, Sort};
 use std::alloc::Global;
 
@@ -24,10 +25,10 @@ fn named_with(
     kids: List<Kid>,
     extras: List<Extra>,
 ) -> Result<Option<Production>, Memory>
-    requires prods { length raw.now ≤ 256 }
+    requires prods { length raw.now ≤ PRODUCTION_LIMIT }
     requires attrs { All HasFewAttrs sorts.now }
-    requires kids { length kids ≤ 8 }
-    requires extras { length extras ≤ 16 }
+    requires kids { length kids ≤ CHILD_LIMIT }
+    requires extras { length extras ≤ LOCAL_LIMIT }
     ensures { IfOk result (λ named. named ≡ named_with raw.now sorts.now prod.now left kids extras) }
 {
     let occurrences = called_occurrences(alloc, sorts, left, kids.as_slice(), extras.as_slice())?;

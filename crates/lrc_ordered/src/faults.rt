@@ -1,4 +1,5 @@
-/// Why a grammar is not ordered: a production, by number, and its least occurrence on a cycle.
+/// Why a grammar is not ordered, numbered from 1 in this order: a production, by number, and its least
+/// occurrence on a cycle.
 #[derive(Debug, Drop, PartialEq, Eq)]
 pub enum OrderFault {
     /// A cycle of induced dependencies.

@@ -1,7 +1,5 @@
 -- A production of a grammar has few occurrences and symbols, and an empty set of its shape has room for its items.
 use Rattle.std.proofs.Common.{◌≡◌, ℕ, ◌+◌, ◌<◌, ◌≤◌, ◌^◌, Bool, true, false, cond, IsTrue, List, [], ◌∷◌, length, map, get_or, All, Contains, Option, Some, None, length-append, arith, zero-le}
-use Rattle.std.specs.Prelude.{nat_le}
-use Rattle.std.proofs.lemmas.Bool.{and_parts, leb-true}
 use Rattle.std.proofs.lemmas.List.Elements.{All-contains, All-map, All-weaker}
 use Rattle.lrc_base.specs.declared.grammar.Kind.{Kind}
 use Rattle.lrc_base.specs.declared.grammar.Kind.TheVariants as k
@@ -10,13 +8,12 @@ use Rattle.lrc_base.specs.declared.grammar.Kid.{Kid}
 use Rattle.lrc_base.specs.declared.grammar.Extra.{Extra}
 use Rattle.lrc_base.specs.declared.grammar.Production.{Production}
 use Rattle.lrc_meaning.specs.Grammar.{Grammar, attrs_of_sort, attrs_of, extra_occurrences, occurrences_of, is_production_right, is_well_formed}
-use Rattle.lrc_grammar.specs.Limits.{has_few_parts, keeps_limits}
+use Rattle.lrc_meaning.specs.Limits.{IsFew, IsWithinLimits}
 use Rattle.lrc_order_meaning.specs.declared.Need.{Need}
 use Rattle.lrc_order_meaning.specs.declared.Partition.{Partition}
 use Rattle.lrc_order_meaning.specs.declared.Place.{Place}
 use Rattle.lrc_order_meaning.specs.Needs.{symbol_of, kid_symbols, extra_symbols, own_end, kids_end, symbols_of, left_place, places_of}
 use Rattle.lrc_ordered.proofs.PlaceLemmas.{IsWithin, places_within}
-use Rattle.lrc_ordered.proofs.RangeLemmas.{all_pass}
 use Rattle.lrc_ordered.proofs.OrderLemmas.{few_attrs}
 use Rattle.lrc_ordered.proofs.SmallLemmas.{few_is_small}
 use Rattle.lrc_plan_meaning.specs.Items.{values_of_visit, extended_of}
@@ -28,9 +25,9 @@ use Rattle.lrc_plan.specs.Gaining.{shape_of}
 use Rattle.lrc_plan.proofs.InLemmas.{production_is_right, has_room, left_values_in, actions_in, IsActionIn, extended_in}
 
 -- a grammar has few sorts, and each has few attributes
-module _ (g : Grammar) (kept : IsTrue (keeps_limits g)) where
+module _ (g : Grammar) (kept : IsWithinLimits g) where
   pub few_sorts : length g.sorts < 2 ^ 32
-  few_sorts = let le = leb-true (length g.sorts) 64 (and_parts _ _ (and_parts _ _ kept).0).0 in omega arith
+  few_sorts = let le = kept.sorts in omega arith
 
   pub few_attributes : (s : ℕ) → length (attrs_of_sort g.sorts s) < 2 ^ 32
   few_attributes s = let few = few_attrs g.sorts s (few_is_small g kept).attributes in omega arith
@@ -61,7 +58,7 @@ extra_symbols_few sorts start (x ∷ xs) =
     let both = length-append (cond x.attached (symbol_of x.kind (start + 1) (Some start)) []) (extra_symbols sorts (start + length (extra_occurrences sorts x)) xs) in
     omega arith
 
-module _ (g : Grammar) (well : IsTrue (is_well_formed g)) (kept : IsTrue (keeps_limits g)) (parts : List Partition) (p : Production) (there : Contains g.prods p) where
+module _ (g : Grammar) (well : IsTrue (is_well_formed g)) (kept : IsWithinLimits g) (parts : List Partition) (p : Production) (there : Contains g.prods p) where
   pub right : is_production_right g.sorts g.prods p ≡ true
   right = production_is_right g well p there
 
@@ -69,18 +66,13 @@ module _ (g : Grammar) (well : IsTrue (is_well_formed g)) (kept : IsTrue (keeps_
   few_occurrences =
       let small = All-contains (λ q. length (occurrences_of g.sorts q) < 1024) g.prods p (few_is_small g kept).occurrences there in omega arith
 
-  few_parts : (length p.kids ≤ 8) × (length p.extras ≤ 16)
-  few_parts =
-      let prods = and_parts _ _ (and_parts _ _ kept).1 in
-      All-contains (λ (q : Production). (length q.kids ≤ 8) × (length q.extras ≤ 16)) g.prods p
-      (all_pass has_few_parts (λ (q : Production). (length q.kids ≤ 8) × (length q.extras ≤ 16))
-      (λ q h.
-      let parts = and_parts (nat_le (length q.kids) 8) (nat_le (length q.extras) 16) h in
-      (leb-true (length q.kids) 8 parts.0, leb-true (length q.extras) 16 parts.1)) g.prods prods.1) there
+  few_parts : IsFew p
+  few_parts = All-contains IsFew g.prods p kept.parts there
 
   pub few_symbols : length (symbols_of g.sorts p) < 2 ^ 32
   few_symbols =
-      let few = few_parts in
+      let few_kids = few_parts.kids in
+      let few_extras = few_parts.extras in
       let kids = kid_symbols_few g.sorts (own_end g.sorts p) p.kids in
       let extras = extra_symbols_few g.sorts (kids_end g.sorts p) p.extras in
       let both = length-append (kid_symbols g.sorts (own_end g.sorts p) p.kids) (extra_symbols g.sorts (kids_end g.sorts p) p.extras) in

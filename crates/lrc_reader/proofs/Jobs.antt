@@ -1,5 +1,6 @@
 -- The readings of the other parts of a job are exact, with a place for each stop.
 use Rattle.std.proofs.Common.{◌≡◌, ℕ, ◌+◌, Bool, true, false, Some, List, [], ◌∷◌, refl, sym, inl, arith, pos}
+use Rattle.lrc_base.specs.declared.limits.TheConstants.{ATTRIBUTE_LIMIT, CHILD_LIMIT, LOCAL_LIMIT, SORT_LIMIT, PRODUCTION_LIMIT, SESSION_LIMIT, EDIT_LIMIT}
 use Rattle.lrc_base.specs.declared.raw.RawTerm.{RawTerm}
 use Rattle.lrc_base.specs.declared.raw.RawTerm.TheVariants as t
 use Rattle.lrc_parse.specs.Kinds.{has, disjoint}
@@ -74,7 +75,7 @@ most {o = o} {r = r} {p = p} {s = s} {L = L} {a = a} {i = i} n c ne z d e = stag
 
 attrs : {o r p : Bool} {i : ℕ} → Staged kind slacker o r p (shape_many (begins directions)) (λ j. Most kind (attribute_limit j) directions (passing Attributes) g.IsAttr) (λ j. read_attrs j []) i
 unfolding read_attrs
-attrs = most 16 (passing Attributes) (λ e. cc) refl refl (attr slack_wide)
+attrs = most ATTRIBUTE_LIMIT (passing Attributes) (λ e. cc) refl refl (attr slack_wide)
 
 pub sort : {o r p : Bool} {i : ℕ} → Staged kind slacker o r p (begins (only m.Sort)) (λ j. g.IsSort j) (λ j. read_sort j) i
 unfolding read_sort
@@ -87,7 +88,7 @@ unfolding read_some_kids read_push_kid read_more_kids
 some_kids {o} {r} {p} {i} =
     staged_as kind slacker slack_wide o r p _ (λ j. SeparatedMost kind (number m.Comma) (child_limit j) words (passing Children) g.IsKid) (λ j. SeparatedMost kind (number m.Comma) (child_limit j) words (passing Children) g.IsKid)
     (λ j. read_separated_most kind (number m.Comma) (child_limit j) words (passing Children) read_kid) (λ j. read_some_kids j) i
-    (staged_separated_most kind slacker slack_wide o r p (number m.Comma) (l.Mark m.Comma) refl (λ j. child_limit j) (a_limit 8) (λ j. omega arith) (begins words) (passing Children) (λ e. cc) (λ _. g.IsKid) (λ _. read_kid) refl refl i (kid slack_wide))
+    (staged_separated_most kind slacker slack_wide o r p (number m.Comma) (l.Mark m.Comma) refl (λ j. child_limit j) (a_limit CHILD_LIMIT) (λ j. omega arith) (begins words) (passing Children) (λ e. cc) (λ _. g.IsKid) (λ _. read_kid) refl refl i (kid slack_wide))
     (λ k u x d. d) (λ k u x d. d) (λ k c u t d. d) (λ k c u t d. d) (λ j u. sym (separated_most_is (number m.Comma) read_kid (child_limit j) words (passing Children) u))
 
 kids : {o r p : Bool} {i : ℕ} → Staged kind slacker o r p (begins (only m.LeftParen)) (λ j. g.IsKids j) (λ j. read_kids j) i
@@ -144,7 +145,7 @@ undeclared = either slack_wide pattern equation refl refl
 
 declaration : {o r p : Bool} {i : ℕ} (s : Items) → Staged kind slacker o r p (begins declarations) (λ j. g.IsDeclaration j s) (λ j. read_declaration j s) i
 unfolding read_declaration
-declaration s = then slack_wide (roomy slack_wide s.1 (λ j. local_limit j) Locals (a_limit 16) refl declared) (λ x. end slack_wide _) refl
+declaration s = then slack_wide (roomy slack_wide s.1 (λ j. local_limit j) Locals (a_limit LOCAL_LIMIT) refl declared) (λ x. end slack_wide _) refl
 
 other : {o r p : Bool} {i : ℕ} (s : Items) → Staged kind slacker o r p (begins others) (λ j. g.IsOther j s) (λ j. read_other j s) i
 unfolding read_other
@@ -178,11 +179,11 @@ start = then slack_wide (mark slack_wide m.Start) (λ _. then slack_wide (word s
 
 sorts : {o r p : Bool} {i : ℕ} → Staged kind slacker o r p (shape_many (begins (only m.Sort))) (λ j. Most kind (sort_limit j) (only m.Sort) (passing Sorts) (g.IsSort j)) (λ j. read_sorts j []) i
 unfolding read_sorts
-sorts = most 64 (passing Sorts) (λ e. cc) refl refl sort
+sorts = most SORT_LIMIT (passing Sorts) (λ e. cc) refl refl sort
 
 prods : {o r p : Bool} {i : ℕ} → Staged kind slacker o r p (shape_many (begins (only m.Prod))) (λ j. Most kind (production_limit j) (only m.Prod) (passing Productions) (g.IsProd j)) (λ j. read_prods j []) i
 unfolding read_prods
-prods = most 256 (passing Productions) (λ e. cc) refl refl prod
+prods = most PRODUCTION_LIMIT (passing Productions) (λ e. cc) refl refl prod
 
 grammar : {o r p : Bool} {i : ℕ} → Staged kind slacker o r p (begins (number m.Sort ∷ number m.Prod ∷ number m.Start ∷ [])) (λ j. g.IsGrammar j) (λ j. read_grammar j) i
 unfolding read_grammar
@@ -216,7 +217,7 @@ an_edit = either slack_wide put (either slack_wide copy (either slack_wide show 
 
 all_edits : {o r p : Bool} {i : ℕ} → Staged kind slacker o r p (shape_many (begins edits)) (λ j. Most kind (edit_limit j) edits (passing Edits) (g.IsEdit j)) (λ j. read_edits j []) i
 unfolding read_edits
-all_edits = most 10000 (passing Edits) (λ e. cc) refl refl an_edit
+all_edits = most EDIT_LIMIT (passing Edits) (λ e. cc) refl refl an_edit
 
 pub session : {o r p : Bool} {i : ℕ} → Staged kind slacker o r p (begins (only m.Session)) (λ j. g.IsSession j) (λ j. read_session j) i
 unfolding read_session
@@ -226,7 +227,7 @@ session =
 
 sessions : {o r p : Bool} {i : ℕ} → Staged kind slacker o r p (shape_many (begins (only m.Session))) (λ j. Most kind (session_limit j) (only m.Session) (passing Sessions) (g.IsSession j)) (λ j. read_sessions j []) i
 unfolding read_sessions
-sessions = most 64 (passing Sessions) (λ e. cc) refl refl session
+sessions = most SESSION_LIMIT (passing Sessions) (λ e. cc) refl refl session
 
 -- ---- the whole
 

@@ -1,6 +1,7 @@
 -- A text has at most one first fault, and none where it denotes a job.
 use Rattle.std.proofs.Common.{◌≡◌, ℕ, ◌-◌, ◌<◌, ◌≤◌, List, [], ◌∷◌, ◌++◌, length, drop, refl, sym, ap, ◌∙◌, subst, arith, ◌⊎◌, inl, inr, append_assoc}
 use Rattle.std.proofs.lemmas.List.{append-nil, map-append}
+use Rattle.lrc_base.specs.declared.limits.TheConstants.{TEXT_LIMIT}
 use Rattle.lrc_base.specs.declared.job.Job.{Job}
 use Rattle.lrc_lex.specs.declared.Token.{Token}
 use Rattle.lrc_lex.proofs.TokensLemmas.{one_list, one_fault, never_both}
@@ -197,7 +198,7 @@ not_both : (text : List ℕ) (c : Cause) (at to : ℕ) → IsPassed text c at �
 not_both text c at to f g =
     passed_or_wanted c _ _ _ _ (same_lexemes text f.0 g.0) f.1 f.2 g.1 g.2
 
-long : (text : List ℕ) → 16777216 < length text → length text ≤ 16777216 → ⊥
+long : (text : List ℕ) → TEXT_LIMIT < length text → length text ≤ TEXT_LIMIT → ⊥
 long text a b = omega (arith, a, b)
 
 pub one_first : (text : List ℕ) (f g : JobFault) → FirstTextFault text f → FirstTextFault text g → f ≡ g

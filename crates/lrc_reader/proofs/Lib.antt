@@ -6,5 +6,6 @@ pub mod Expressions
 pub mod Jobs
 pub mod Shorter
 pub mod Verdict
+pub mod Nodes
 pub mod Limits
 pub mod Laws

@@ -1,5 +1,6 @@
 -- The turns of each loop: a turn takes a lexeme, so that the loop ends.
 use Rattle.std.proofs.Common.{◌≡◌, ℕ, ◌<◌, Bool, true, false, ltb, List, [], ◌∷◌, ◌++◌, length, refl, ap, sym, ◌∙◌, arith}
+use Rattle.lrc_base.specs.declared.limits.TheConstants.{ATTRIBUTE_LIMIT, CHILD_LIMIT, SORT_LIMIT, PRODUCTION_LIMIT, SESSION_LIMIT, EDIT_LIMIT}
 use Rattle.lrc_base.specs.declared.raw.RawAttr.{RawAttr}
 use Rattle.lrc_base.specs.declared.raw.RawSort.{RawSort}
 use Rattle.lrc_base.specs.declared.raw.RawKid.{RawKid}
@@ -96,116 +97,116 @@ known s L a e = e.exact 0
 pub attr_shorter : (xs zs : List RawAttr) (u r : List Lexeme) → read_another_attr 0 xs u ≡ took zs r → length r < length u
 unfolding read_another_attr read_push_attr
 attr_shorter xs zs u r h =
-    push_shorter _ _ _ (known _ _ _ (attr slack_wide)) refl (λ x. xs ++ x ∷ []) zs u r (room_took (length xs) 16 directions Attributes _ zs u r h)
+    push_shorter _ _ _ (known _ _ _ (attr slack_wide)) refl (λ x. xs ++ x ∷ []) zs u r (room_took (length xs) ATTRIBUTE_LIMIT directions Attributes _ zs u r h)
 
 pub attr_turn : (xs zs : List RawAttr) (u r : List Lexeme) → starts kind directions u ≡ true → read_another_attr 0 xs u ≡ took zs r → read_attrs 0 xs u ≡ read_attrs 0 zs r
 unfolding read_attrs read_another_attr read_push_attr
-attr_turn xs zs u r e f = most_turn 16 directions Attributes read_attr xs zs u r e f (attr_shorter xs zs u r f)
+attr_turn xs zs u r e f = most_turn ATTRIBUTE_LIMIT directions Attributes read_attr xs zs u r e f (attr_shorter xs zs u r f)
 
 pub attr_stops : (xs : List RawAttr) (c : Cause) (u r : List Lexeme) → starts kind directions u ≡ true → read_another_attr 0 xs u ≡ stops c r → read_attrs 0 xs u ≡ stops c r
 unfolding read_attrs read_another_attr read_push_attr
-attr_stops xs c u r e f = most_stops 16 directions Attributes read_attr xs c u r e f
+attr_stops xs c u r e f = most_stops ATTRIBUTE_LIMIT directions Attributes read_attr xs c u r e f
 
 pub attr_end : (xs : List RawAttr) (u : List Lexeme) → starts kind directions u ≡ false → read_attrs 0 xs u ≡ took xs u
 unfolding read_attrs
-attr_end xs u e = read_most_end kind 16 directions (passing Attributes) (read_attr) xs u e
+attr_end xs u e = read_most_end kind ATTRIBUTE_LIMIT directions (passing Attributes) (read_attr) xs u e
 
 -- ---- sorts
 
 pub sort_shorter : (xs zs : List RawSort) (u r : List Lexeme) → read_another_sort 0 xs u ≡ took zs r → length r < length u
 unfolding read_another_sort
 sort_shorter xs zs u r h =
-    push_shorter _ _ _ (known _ _ _ sort) refl (λ x. xs ++ x ∷ []) zs u r (room_took (length xs) 64 (only m.Sort) Sorts _ zs u r h)
+    push_shorter _ _ _ (known _ _ _ sort) refl (λ x. xs ++ x ∷ []) zs u r (room_took (length xs) SORT_LIMIT (only m.Sort) Sorts _ zs u r h)
 
 pub sort_turn : (xs zs : List RawSort) (u r : List Lexeme) → starts kind (only m.Sort) u ≡ true → read_another_sort 0 xs u ≡ took zs r → read_sorts 0 xs u ≡ read_sorts 0 zs r
 unfolding read_sorts read_another_sort
-sort_turn xs zs u r e f = most_turn 64 (only m.Sort) Sorts (read_sort 0) xs zs u r e f (sort_shorter xs zs u r f)
+sort_turn xs zs u r e f = most_turn SORT_LIMIT (only m.Sort) Sorts (read_sort 0) xs zs u r e f (sort_shorter xs zs u r f)
 
 pub sort_stops : (xs : List RawSort) (c : Cause) (u r : List Lexeme) → starts kind (only m.Sort) u ≡ true → read_another_sort 0 xs u ≡ stops c r → read_sorts 0 xs u ≡ stops c r
 unfolding read_sorts read_another_sort
-sort_stops xs c u r e f = most_stops 64 (only m.Sort) Sorts (read_sort 0) xs c u r e f
+sort_stops xs c u r e f = most_stops SORT_LIMIT (only m.Sort) Sorts (read_sort 0) xs c u r e f
 
 pub sort_end : (xs : List RawSort) (u : List Lexeme) → starts kind (only m.Sort) u ≡ false → read_sorts 0 xs u ≡ took xs u
 unfolding read_sorts
-sort_end xs u e = read_most_end kind 64 (only m.Sort) (passing Sorts) (read_sort 0) xs u e
+sort_end xs u e = read_most_end kind SORT_LIMIT (only m.Sort) (passing Sorts) (read_sort 0) xs u e
 
 -- ---- prods
 
 pub prod_shorter : (xs zs : List RawProd) (u r : List Lexeme) → read_another_prod 0 xs u ≡ took zs r → length r < length u
 unfolding read_another_prod
 prod_shorter xs zs u r h =
-    push_shorter _ _ _ (known _ _ _ prod) refl (λ x. xs ++ x ∷ []) zs u r (room_took (length xs) 256 (only m.Prod) Productions _ zs u r h)
+    push_shorter _ _ _ (known _ _ _ prod) refl (λ x. xs ++ x ∷ []) zs u r (room_took (length xs) PRODUCTION_LIMIT (only m.Prod) Productions _ zs u r h)
 
 pub prod_turn : (xs zs : List RawProd) (u r : List Lexeme) → starts kind (only m.Prod) u ≡ true → read_another_prod 0 xs u ≡ took zs r → read_prods 0 xs u ≡ read_prods 0 zs r
 unfolding read_prods read_another_prod
-prod_turn xs zs u r e f = most_turn 256 (only m.Prod) Productions (read_prod 0) xs zs u r e f (prod_shorter xs zs u r f)
+prod_turn xs zs u r e f = most_turn PRODUCTION_LIMIT (only m.Prod) Productions (read_prod 0) xs zs u r e f (prod_shorter xs zs u r f)
 
 pub prod_stops : (xs : List RawProd) (c : Cause) (u r : List Lexeme) → starts kind (only m.Prod) u ≡ true → read_another_prod 0 xs u ≡ stops c r → read_prods 0 xs u ≡ stops c r
 unfolding read_prods read_another_prod
-prod_stops xs c u r e f = most_stops 256 (only m.Prod) Productions (read_prod 0) xs c u r e f
+prod_stops xs c u r e f = most_stops PRODUCTION_LIMIT (only m.Prod) Productions (read_prod 0) xs c u r e f
 
 pub prod_end : (xs : List RawProd) (u : List Lexeme) → starts kind (only m.Prod) u ≡ false → read_prods 0 xs u ≡ took xs u
 unfolding read_prods
-prod_end xs u e = read_most_end kind 256 (only m.Prod) (passing Productions) (read_prod 0) xs u e
+prod_end xs u e = read_most_end kind PRODUCTION_LIMIT (only m.Prod) (passing Productions) (read_prod 0) xs u e
 
 -- ---- edits
 
 pub edit_shorter : (xs zs : List RawEdit) (u r : List Lexeme) → read_another_edit 0 xs u ≡ took zs r → length r < length u
 unfolding read_another_edit
 edit_shorter xs zs u r h =
-    push_shorter _ _ _ (known _ _ _ an_edit) refl (λ x. xs ++ x ∷ []) zs u r (room_took (length xs) 10000 edits Edits _ zs u r h)
+    push_shorter _ _ _ (known _ _ _ an_edit) refl (λ x. xs ++ x ∷ []) zs u r (room_took (length xs) EDIT_LIMIT edits Edits _ zs u r h)
 
 pub edit_turn : (xs zs : List RawEdit) (u r : List Lexeme) → starts kind edits u ≡ true → read_another_edit 0 xs u ≡ took zs r → read_edits 0 xs u ≡ read_edits 0 zs r
 unfolding read_edits read_another_edit
-edit_turn xs zs u r e f = most_turn 10000 edits Edits (read_edit 0) xs zs u r e f (edit_shorter xs zs u r f)
+edit_turn xs zs u r e f = most_turn EDIT_LIMIT edits Edits (read_edit 0) xs zs u r e f (edit_shorter xs zs u r f)
 
 pub edit_stops : (xs : List RawEdit) (c : Cause) (u r : List Lexeme) → starts kind edits u ≡ true → read_another_edit 0 xs u ≡ stops c r → read_edits 0 xs u ≡ stops c r
 unfolding read_edits read_another_edit
-edit_stops xs c u r e f = most_stops 10000 edits Edits (read_edit 0) xs c u r e f
+edit_stops xs c u r e f = most_stops EDIT_LIMIT edits Edits (read_edit 0) xs c u r e f
 
 pub edit_end : (xs : List RawEdit) (u : List Lexeme) → starts kind edits u ≡ false → read_edits 0 xs u ≡ took xs u
 unfolding read_edits
-edit_end xs u e = read_most_end kind 10000 edits (passing Edits) (read_edit 0) xs u e
+edit_end xs u e = read_most_end kind EDIT_LIMIT edits (passing Edits) (read_edit 0) xs u e
 
 -- ---- sessions
 
 pub session_shorter : (xs zs : List RawScript) (u r : List Lexeme) → read_another_session 0 xs u ≡ took zs r → length r < length u
 unfolding read_another_session
 session_shorter xs zs u r h =
-    push_shorter _ _ _ (known _ _ _ session) refl (λ x. xs ++ x ∷ []) zs u r (room_took (length xs) 64 (only m.Session) Sessions _ zs u r h)
+    push_shorter _ _ _ (known _ _ _ session) refl (λ x. xs ++ x ∷ []) zs u r (room_took (length xs) SESSION_LIMIT (only m.Session) Sessions _ zs u r h)
 
 pub session_turn : (xs zs : List RawScript) (u r : List Lexeme) → starts kind (only m.Session) u ≡ true → read_another_session 0 xs u ≡ took zs r → read_sessions 0 xs u ≡ read_sessions 0 zs r
 unfolding read_sessions read_another_session
-session_turn xs zs u r e f = most_turn 64 (only m.Session) Sessions (read_session 0) xs zs u r e f (session_shorter xs zs u r f)
+session_turn xs zs u r e f = most_turn SESSION_LIMIT (only m.Session) Sessions (read_session 0) xs zs u r e f (session_shorter xs zs u r f)
 
 pub session_stops : (xs : List RawScript) (c : Cause) (u r : List Lexeme) → starts kind (only m.Session) u ≡ true → read_another_session 0 xs u ≡ stops c r → read_sessions 0 xs u ≡ stops c r
 unfolding read_sessions read_another_session
-session_stops xs c u r e f = most_stops 64 (only m.Session) Sessions (read_session 0) xs c u r e f
+session_stops xs c u r e f = most_stops SESSION_LIMIT (only m.Session) Sessions (read_session 0) xs c u r e f
 
 pub session_end : (xs : List RawScript) (u : List Lexeme) → starts kind (only m.Session) u ≡ false → read_sessions 0 xs u ≡ took xs u
 unfolding read_sessions
-session_end xs u e = read_most_end kind 64 (only m.Session) (passing Sessions) (read_session 0) xs u e
+session_end xs u e = read_most_end kind SESSION_LIMIT (only m.Session) (passing Sessions) (read_session 0) xs u e
 
 -- ---- children
 
 pub kid_shorter : (xs zs : List RawKid) (u r : List Lexeme) → read_another_kid 0 xs u ≡ took zs r → length r < length u
 unfolding read_another_kid read_push_kid
 kid_shorter xs zs u r h =
-    behind_mark (number m.Comma) _ zs u r (λ v i. push_shorter _ _ _ (known _ _ _ (kid slack_wide)) refl (λ x. xs ++ x ∷ []) zs v r (room_took (length xs) 8 words Children _ zs v r i)) h
+    behind_mark (number m.Comma) _ zs u r (λ v i. push_shorter _ _ _ (known _ _ _ (kid slack_wide)) refl (λ x. xs ++ x ∷ []) zs v r (room_took (length xs) CHILD_LIMIT words Children _ zs v r i)) h
 
 pub kid_turn : (xs zs : List RawKid) (u r : List Lexeme) → starts kind (only m.Comma) u ≡ true → read_another_kid 0 xs u ≡ took zs r → read_more_kids 0 xs u ≡ read_more_kids 0 zs r
 unfolding read_more_kids read_another_kid read_push_kid
 kid_turn xs zs u r e f =
-    others_most_turn (number m.Comma) read_kid 8 words (passing Children) xs zs u r e (behind_room (read_fixed kind (number m.Comma) u) (length xs) 8 words Children (read_push_kid xs) ∙ f) (kid_shorter xs zs u r f)
+    others_most_turn (number m.Comma) read_kid CHILD_LIMIT words (passing Children) xs zs u r e (behind_room (read_fixed kind (number m.Comma) u) (length xs) CHILD_LIMIT words Children (read_push_kid xs) ∙ f) (kid_shorter xs zs u r f)
 
 pub kid_stops : (xs : List RawKid) (c : Cause) (u r : List Lexeme) → starts kind (only m.Comma) u ≡ true → read_another_kid 0 xs u ≡ stops c r → read_more_kids 0 xs u ≡ stops c r
 unfolding read_more_kids read_another_kid read_push_kid
 kid_stops xs c u r e h =
-    others_most_stops (number m.Comma) read_kid 8 words (passing Children) xs c u r e (behind_room (read_fixed kind (number m.Comma) u) (length xs) 8 words Children (read_push_kid xs) ∙ h)
+    others_most_stops (number m.Comma) read_kid CHILD_LIMIT words (passing Children) xs c u r e (behind_room (read_fixed kind (number m.Comma) u) (length xs) CHILD_LIMIT words Children (read_push_kid xs) ∙ h)
 
 pub kid_end : (xs : List RawKid) (u : List Lexeme) → starts kind (only m.Comma) u ≡ false → read_more_kids 0 xs u ≡ took xs u
 unfolding read_more_kids
-kid_end xs u e = read_others_most_end kind (number m.Comma) 8 words (passing Children) read_kid xs u e
+kid_end xs u e = read_others_most_end kind (number m.Comma) CHILD_LIMIT words (passing Children) read_kid xs u e
 
 -- ---- pieces of a pattern
 

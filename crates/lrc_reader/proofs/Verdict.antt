@@ -1,6 +1,7 @@
 -- What reading all lexemes says of a text: its job, or its first fault.
 use Rattle.std.proofs.Common.{◌≡◌, ◌≢◌, true, ℕ, suc, ◌+◌, ◌-◌, ◌≤◌, List, [], ◌∷◌, ◌++◌, length, drop, refl, sym, ap, ◌∙◌, subst, arith, length-append, append_assoc}
 use Rattle.std.proofs.lemmas.List.{append-nil, append_cancel_right}
+use Rattle.lrc_base.specs.declared.limits.TheConstants.{TEXT_LIMIT}
 use Rattle.lrc_base.specs.declared.job.Job.{Job}
 use Rattle.lrc_lex.specs.declared.Token.{Token}
 use Rattle.lrc_lex.specs.Tokens.{Tokens}
@@ -113,7 +114,7 @@ length_lexemes text [] = refl
 length_lexemes text (t ∷ found) = ap suc (length_lexemes text found)
 
 -- the tokens that are left begin at the place
-split_at : (text : List ℕ) (found : List Token) (p r : List Lexeme) (at left : ℕ) → length text ≤ 16777216 → Tokens text found → lexemes text found ≡ p ++ r → left ≡ length r →
+split_at : (text : List ℕ) (found : List Token) (p r : List Lexeme) (at left : ℕ) → length text ≤ TEXT_LIMIT → Tokens text found → lexemes text found ≡ p ++ r → left ≡ length r →
     at ≡ start_of text (drop (length found - left) found) → (s : Split text at) × (lexemes text s.before ≡ p) × (lexemes text s.rest ≡ r)
 split_at text found p r at left short cut e l here =
     let w : _ = parted text found p r e in
@@ -124,13 +125,13 @@ split_at text found p r at left short cut e l here =
       w.4,
     )
 
-expected_at : (text : List ℕ) (found : List Token) (at left : ℕ) (r : List Lexeme) → length text ≤ 16777216 → Tokens text found → left ≡ length r →
+expected_at : (text : List ℕ) (found : List Token) (at left : ℕ) (r : List Lexeme) → length text ≤ TEXT_LIMIT → Tokens text found → left ≡ length r →
     at ≡ start_of text (drop (length found - left) found) → (p : List Lexeme) × (lexemes text found ≡ p ++ r) × Wanting jobs p r × Unpassed p → IsExpected text at
 expected_at text found at left r short cut l here v =
     let w : _ = split_at text found v.0 r at left short cut v.1 l here in
     (w.0, subst (λ q. Wanting jobs (lexemes text w.0.before) q) (sym w.2) (subst (λ q. Wanting jobs q r) (sym w.1) v.2), subst Unpassed (sym w.1) v.3)
 
-passed_at : (text : List ℕ) (found : List Token) (c : Cause) (at left : ℕ) (r : List Lexeme) → length text ≤ 16777216 → Tokens text found → left ≡ length r →
+passed_at : (text : List ℕ) (found : List Token) (c : Cause) (at left : ℕ) (r : List Lexeme) → length text ≤ TEXT_LIMIT → Tokens text found → left ≡ length r →
     at ≡ start_of text (drop (length found - left) found) → (p : List Lexeme) × (lexemes text found ≡ p ++ r) × PassesNext c p r × Passing jobs 0 p r → IsPassed text c at
 passed_at text found c at left r short cut l here v =
     let w : _ = split_at text found v.0 r at left short cut v.1 l here in (
@@ -147,13 +148,13 @@ same_tokens text found x cut d = subst (λ v. jobs 0 (lexemes text v) x) (one_li
 pub one_job : (text : List ℕ) (x y : Job) → Denotes text x → Denotes text y → x ≡ y
 one_job text x y d e = one_job_of (lexemes text d.found) x y d.derived (same_tokens text d.found y d.cut e)
 
-pub read_up : (text : List ℕ) (found : List Token) (v r : List Lexeme) (x : Job) (left : ℕ) → length text ≤ 16777216 → Tokens text found → v ≡ lexemes text found →
+pub read_up : (text : List ℕ) (found : List Token) (v r : List Lexeme) (x : Job) (left : ℕ) → length text ≤ TEXT_LIMIT → Tokens text found → v ≡ lexemes text found →
     read_all 0 v ≡ took x r → left ≡ length r → left ≡ 0 → Denotes text x
 read_up text found v [] x left short cut same e l z =
     record { short = short; found = found; cut = cut; derived = subst (λ u. jobs 0 u x) same (read_whole kind _ _ _ exact_job v x e) }
 read_up text found v (t ∷ r) x left short cut same e l z = absurd (omega (arith, l, z))
 
-stop_fault : (text : List ℕ) (found : List Token) (r : List Lexeme) (why : Stop) (at left : ℕ) → length text ≤ 16777216 → Tokens text found →
+stop_fault : (text : List ℕ) (found : List Token) (r : List Lexeme) (why : Stop) (at left : ℕ) → length text ≤ TEXT_LIMIT → Tokens text found →
     why ≢ stop.Memory → read_all 0 (lexemes text found) ≡ stops (cause_of why) r → left ≡ length r → at ≡ start_of text (drop (length found - left) found) → FirstTextFault text (fault_at why at)
 stop_fault text found r stop.Expected at left short cut n e l here = expected_at text found at left r short cut l here (expected_place _ r e)
 stop_fault text found r stop.NestedTooDeep at left short cut n e l here = passed_at text found nested at left r short cut l here (nested_place _ r e)
@@ -163,7 +164,7 @@ stop_fault text found r stop.Memory at left short cut n e l here = absurd (n ref
 not_memory : (why : Stop) (at : ℕ) (f : JobFault) → f ≡ fault_at why at → f ≢ fault.Memory → why ≢ stop.Memory
 not_memory why at f e n m = n (e ∙ ap (λ w. fault_at w at) m)
 
-pub stopped : (text : List ℕ) (found : List Token) (v r : List Lexeme) (why : Stop) (at left : ℕ) (f : JobFault) → length text ≤ 16777216 → Tokens text found → v ≡ lexemes text found →
+pub stopped : (text : List ℕ) (found : List Token) (v r : List Lexeme) (why : Stop) (at left : ℕ) (f : JobFault) → length text ≤ TEXT_LIMIT → Tokens text found → v ≡ lexemes text found →
     (why ≢ stop.Memory → read_all 0 v ≡ stops (cause_of why) r) → left ≡ length r → at ≡ start_of text (drop (length found - left) found) → f ≡ fault_at why at →
     f ≢ fault.Memory → FirstTextFault text f
 stopped text found v r why at left f short cut same e l here is n =
@@ -175,7 +176,7 @@ pub stopped_only : (text : List ℕ) (found : List Token) (v r : List Lexeme) (w
 stopped_only text found v r why at f cut same e is n x d =
     stops_none kind _ _ _ exact_job v r (cause_of why) x (e (not_memory why at f is n)) (subst (λ u. jobs 0 u x) (sym same) (same_tokens text found x cut d))
 
-pub rest_left : (text : List ℕ) (found : List Token) (v r : List Lexeme) (x : Job) (at left : ℕ) (f : JobFault) → length text ≤ 16777216 → Tokens text found → v ≡ lexemes text found →
+pub rest_left : (text : List ℕ) (found : List Token) (v r : List Lexeme) (x : Job) (at left : ℕ) (f : JobFault) → length text ≤ TEXT_LIMIT → Tokens text found → v ≡ lexemes text found →
     read_all 0 v ≡ took x r → left ≡ length r → (left ≡ 0 → ⊥) → at ≡ start_of text (drop (length found - left) found) → f ≡ fault_at stop.Expected at → FirstTextFault text f
 rest_left text found v r x at left f short cut same e l z here is =
     subst (FirstTextFault text) (sym is) (expected_at text found at left r short cut l here (left_over _ r x (ap (read_all 0) (sym same) ∙ e) (λ h. z (l ∙ h))))

@@ -1,5 +1,6 @@
 -- The first fault of a text that denotes no job.
 use Rattle.std.specs.Prelude.{◌≡◌, ℕ, ◌<◌, ◌≤◌, List, [], ◌∷◌, ◌++◌, length}
+use Rattle.lrc_base.specs.declared.limits.TheConstants.{TEXT_LIMIT}
 use Rattle.lrc_base.specs.declared.job.Job.{Job}
 use Rattle.lrc_lex.specs.declared.Token.{Token}
 use Rattle.lrc_lex.specs.Tokens.{Tokens, FirstFault}
@@ -20,7 +21,7 @@ start_of text (token ∷ tokens) = token.at
 
 -- The tokens of the text are those before the fault and the rest, which begins at this place.
 pub record Split (text : List ℕ) (at : ℕ) : Type 0 where
-  pub short : length text ≤ 16777216
+  pub short : length text ≤ TEXT_LIMIT
   pub before : List Token
   pub rest : List Token
   pub cut : Tokens text (before ++ rest)
@@ -50,8 +51,8 @@ IsPassed text cause at =
     (s : Split text at) × PassesNext cause (lexemes text s.before) (lexemes text s.rest) × Passing jobs 0 (lexemes text s.before) (lexemes text s.rest)
 
 abbrev pub FirstTextFault : List ℕ → JobFault → Type 0
-FirstTextFault text TooLong = 16777216 < length text
-FirstTextFault text (Lex fault) = (length text ≤ 16777216) × FirstFault text fault
+FirstTextFault text TooLong = TEXT_LIMIT < length text
+FirstTextFault text (Lex fault) = (length text ≤ TEXT_LIMIT) × FirstFault text fault
 FirstTextFault text (Expected at) = IsExpected text at
 FirstTextFault text (LimitReached at what) = IsPassed text (passing what) at
 FirstTextFault text (NestedTooDeep at) = IsPassed text nested at

@@ -10,14 +10,9 @@ use crate::cursor::Cursor;
 use crate::fault::{Limit, Stop};
 use crate::first::{COMPARISONS, CONDITIONALS, EXPRESSIONS, LITERALS, PLUS, TIMES, WORDS};
 use crate::lexeme::{Lexeme, Mark};
+use lrc_base::limits::{LEVEL_LIMIT, NODE_LIMIT};
 use lrc_base::{Boxed, List, Memory, NameText, Op, RawExpr};
 use std::alloc::Global;
-
-/// The most nodes of an equation's expression.
-pub const NODE_LIMIT: usize = 1000;
-
-/// How many expressions may stand within one another.
-pub const EXPRESSION_LEVELS: usize = 1000;
 
 /// What a literal is as an expression.
 fn literal_value(lexeme: &Lexeme<'_>) -> Option<RawExpr>
@@ -460,6 +455,6 @@ pub fn expression(alloc: Global, cursor: &mut Cursor<'_>) -> Result<RawExpr, Sto
     ensures { Gives result cursor.new (reading.read_expr 0 cursor.old) }
 {
     let mut nodes = 0;
-    let value = expression_at(alloc, cursor, EXPRESSION_LEVELS, &mut nodes)?;
+    let value = expression_at(alloc, cursor, LEVEL_LIMIT, &mut nodes)?;
     Ok(value.into_inner())
 }

@@ -10,14 +10,9 @@ use crate::first::{PRODUCTIONS, SORTS};
 use crate::lexeme::Mark;
 use crate::production::production;
 use crate::sort::sort;
+use lrc_base::limits::{PRODUCTION_LIMIT, SORT_LIMIT};
 use lrc_base::{List, NameText, RawGrammar, RawProd, RawSort};
 use std::alloc::Global;
-
-/// The most sorts of a grammar.
-pub const SORT_LIMIT: usize = 64;
-
-/// The most productions of a grammar.
-pub const PRODUCTION_LIMIT: usize = 256;
 
 /// One sort more, if there may be one more.
 #[tactic(auto, unfolding(crate::specs::Reading::read_another_sort))]

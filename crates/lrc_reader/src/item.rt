@@ -11,11 +11,9 @@ use crate::fault::{Limit, Stop};
 use crate::first::{DECLARATIONS, ITEMS, PIECES};
 use crate::lexeme::{Lexeme, Mark};
 use crate::sort::kind;
+use lrc_base::limits::LOCAL_LIMIT;
 use lrc_base::{List, Memory, NameText, RawItem, RawPiece};
 use std::alloc::Global;
-
-/// The most locals and nonterminal attributes of a production.
-pub const LOCAL_LIMIT: usize = 16;
 
 /// A local.
 #[tactic(auto, unfolding(crate::specs::Reading::read_local))]

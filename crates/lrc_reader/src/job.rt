@@ -5,7 +5,7 @@ ghost use Rattle.lrc_base.specs.declared.job.Job.{Job};
 ghost use Rattle.lrc_lex.specs.declared.Token.{Token};
 ghost use Rattle.lrc_lex.specs.Longest.{IsTokenOf};
 ghost use Rattle.lrc_lex.specs.Tokens.{Tokens};
-ghost use Rattle.lrc_meaning.specs.Limits.{KeepsLimits};
+ghost use Rattle.lrc_meaning.specs.Limits.{KeepsCounts, KeepsLimits};
 ghost use Rattle.lrc_reader.specs.Denotes.{Denotes};
 ghost use Rattle.lrc_reader.specs.Faults.{FirstTextFault, start_of};
 ghost use Rattle.lrc_reader.specs.Gives.{fault_at};
@@ -14,8 +14,9 @@ ghost use Rattle.lrc_reader.specs.declared.fault.JobFault.{JobFault};
 use crate::cursor::Cursor;
 use crate::fault::{JobFault, Stop};
 use crate::whole::job;
+use lrc_base::limits::TEXT_LIMIT;
 use lrc_base::{Job, List};
-use lrc_lex::{LexFault, TEXT_LIMIT, Token, tokens};
+use lrc_lex::{LexFault, Token, tokens};
 use std::alloc::Global;
 
 /// Where the first of the last `left` tokens begins; the text's length where none is left.
@@ -88,6 +89,7 @@ fn tokens_of(alloc: Global, text: &[u8]) -> Result<List<Token>, JobFault>
 pub fn read_job(alloc: Global, bytes: &[u8]) -> Result<Job, JobFault>
     ensures ok { IfOk result (λ job. Denotes bytes.now job) }
     ensures limits { IfOk result (λ job. KeepsLimits job.grammar) }
+    ensures counts { IfOk result KeepsCounts }
     ensures fault { IfErr result (λ fault. fault ≢ JobFault.Memory → FirstTextFault bytes.now fault) }
     ensures only { IfErr result (λ fault. fault ≢ JobFault.Memory → (job : Job) → Denotes bytes.now job → ⊥) }
 {

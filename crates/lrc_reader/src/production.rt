@@ -9,11 +9,9 @@ use crate::first::WORDS;
 use crate::item::items;
 use crate::lexeme::Mark;
 use crate::sort::kind;
+use lrc_base::limits::CHILD_LIMIT;
 use lrc_base::{List, RawKid, RawKind, RawProd};
 use std::alloc::Global;
-
-/// The most children of a production.
-pub const CHILD_LIMIT: usize = 8;
 
 /// One child more.
 #[tactic(auto, unfolding(crate::specs::Reading::read_push_kid, crate::specs::Reading::read_kid))]

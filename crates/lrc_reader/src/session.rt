@@ -9,11 +9,9 @@ use crate::fault::{Limit, Stop};
 use crate::first::EDITS;
 use crate::lexeme::Mark;
 use crate::term::term;
+use lrc_base::limits::EDIT_LIMIT;
 use lrc_base::{List, RawEdit, RawScript};
 use std::alloc::Global;
-
-/// The most edits of a session.
-pub const EDIT_LIMIT: usize = 10_000;
 
 /// An edit that puts a term at a place.
 #[tactic(auto, unfolding(crate::specs::Reading::read_put))]

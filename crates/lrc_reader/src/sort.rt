@@ -8,11 +8,9 @@ use crate::cursor::Cursor;
 use crate::fault::{Limit, Stop};
 use crate::first::DIRECTIONS;
 use crate::lexeme::Mark;
+use lrc_base::limits::ATTRIBUTE_LIMIT;
 use lrc_base::{List, RawAttr, RawKind, RawSort};
 use std::alloc::Global;
-
-/// The most attributes of a sort.
-pub const ATTRIBUTE_LIMIT: usize = 16;
 
 /// A kind: one of the three that are given, or the name of a sort.
 #[tactic(auto, unfolding(crate::specs::Reading::read_kind, crate::specs::Reading::read_named_kind, lrc_parse::specs::Reading::read_either))]

@@ -9,11 +9,9 @@ use crate::cursor::Cursor;
 use crate::fault::Stop;
 use crate::first::{LITERALS, TERMS};
 use crate::lexeme::{Lexeme, Mark};
+use lrc_base::limits::LEVEL_LIMIT;
 use lrc_base::{List, RawTerm};
 use std::alloc::Global;
-
-/// How many terms may stand within one another.
-pub const TERM_LEVELS: usize = 1000;
 
 /// What a literal is as a term.
 fn literal_value(lexeme: &Lexeme<'_>) -> Option<RawTerm>
@@ -133,5 +131,5 @@ fn term_at(alloc: Global, cursor: &mut Cursor<'_>, levels: usize) -> Result<RawT
 pub fn term(alloc: Global, cursor: &mut Cursor<'_>) -> Result<RawTerm, Stop>
     ensures { Gives result cursor.new (reading.read_term 0 cursor.old) }
 {
-    term_at(alloc, cursor, TERM_LEVELS)
+    term_at(alloc, cursor, LEVEL_LIMIT)
 }

@@ -10,11 +10,9 @@ use crate::first::SESSIONS;
 use crate::grammar::grammar;
 use crate::lexeme::Mark;
 use crate::session::session;
+use lrc_base::limits::SESSION_LIMIT;
 use lrc_base::{Job, List, RawScript};
 use std::alloc::Global;
-
-/// The most sessions of a job.
-pub const SESSION_LIMIT: usize = 64;
 
 /// One session more, if there may be one more.
 #[tactic(auto, unfolding(crate::specs::Reading::read_another_session))]

@@ -1,6 +1,7 @@
 //! Tokens and their values, and the first fault of a text that has none.
 
-use lrc_lex::{LexFault, TEXT_LIMIT, Token, TokenClass, natural, negative, path, tokens, unquoted};
+use lrc_base::limits::TEXT_LIMIT;
+use lrc_lex::{LexFault, Token, TokenClass, natural, negative, path, tokens, unquoted};
 use std::alloc::Global;
 use std::process::Abort;
 use std::test::Fail;

@@ -20,6 +20,7 @@ use Rattle.clap.specs.declared.error.kind.ErrorKind.{ErrorKind}
 use Rattle.clap.specs.declared.error.kind.ErrorKind.TheVariants.{OutOfMemory}
 use Rattle.clap.specs.declared.parser.matches.ArgMatches.{ArgMatches}
 use Rattle.clap.specs.declared.parser.matches.Found.{Found}
+use Rattle.lrc_base.specs.declared.limits.TheConstants.{ROW_LIMIT, MEMO_LIMIT, DEPTH_LIMIT, SEED_LIMIT, TREE_LIMIT, SESSION_LIMIT}
 use Rattle.lrc_words.specs.CommandLine.{AreRefused, COMMAND, number_in, number_of, verb_named, verb_of, whole_number}
 use Rattle.lrc_words.specs.Parsed.{HasNumber, IsParse}
 use Rattle.lrc_words.proofs.CommandLemmas.{depth_rule, has_simple_rules, is_free_command, is_plain_command, is_simple_command, memo_rule, nodes_rule, rows_rule, seed_rule, sessions_rule}
@@ -41,12 +42,12 @@ is_parse c m words is p matches kinds =
     record {
       taken = ap (λ (a : App). fault_of a words) (sym is) ∙ kinds (ap is_simple_and_free is ∙ is_free_command);
       rows_are = (matches (ap is_simple is ∙ is_simple_command)).0 ∙ ap (λ (a : App). matches_of a words) is;
-      rows = option_number c m is p (codes "rows") (codes "262144") 1 16777216 rows_rule refl refl refl;
-      memo = option_number c m is p (codes "memo") (codes "65536") 1 16777216 memo_rule refl refl refl;
-      depth = option_number c m is p (codes "depth") (codes "500") 1 1000 depth_rule refl refl refl;
-      seed = option_number c m is p (codes "seed") (codes "1") 0 65535 seed_rule refl refl refl;
-      nodes = option_number c m is p (codes "nodes") (codes "1000") 1 1000000 nodes_rule refl refl refl;
-      sessions = option_number c m is p (codes "sessions") (codes "1") 1 64 sessions_rule refl refl refl;
+      rows = option_number c m is p (codes "rows") (codes "262144") 1 ROW_LIMIT rows_rule refl refl refl;
+      memo = option_number c m is p (codes "memo") (codes "65536") 1 MEMO_LIMIT memo_rule refl refl refl;
+      depth = option_number c m is p (codes "depth") (codes "500") 1 DEPTH_LIMIT depth_rule refl refl refl;
+      seed = option_number c m is p (codes "seed") (codes "1") 0 SEED_LIMIT seed_rule refl refl refl;
+      nodes = option_number c m is p (codes "nodes") (codes "1000") 1 TREE_LIMIT nodes_rule refl refl refl;
+      sessions = option_number c m is p (codes "sessions") (codes "1") 1 SESSION_LIMIT sessions_rule refl refl refl;
     }
 
 not_true : (b : Bool) → (b ≡ true → ⊥) → b ≡ false

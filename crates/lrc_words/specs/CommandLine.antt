@@ -9,6 +9,7 @@ use Rattle.clap.specs.Words.{App, Rule, Text, fault_of, first_of, matches_of, ne
 use Rattle.clap.specs.Words.{one_of, takes}
 use Rattle.clap.specs.declared.builder.action.ArgAction.TheVariants.{Set}
 use Rattle.clap.specs.declared.builder.value_parser.ValueParser.TheVariants.{Signed}
+use Rattle.lrc_base.specs.declared.limits.TheConstants.{ROW_LIMIT, MEMO_LIMIT, DEPTH_LIMIT, SEED_LIMIT, TREE_LIMIT, SESSION_LIMIT}
 use Rattle.lrc_words.specs.declared.command.Command.{Command}
 use Rattle.lrc_words.specs.declared.command.Verb.{Verb}
 use Rattle.lrc_words.specs.declared.command.Verb.TheVariants as verb
@@ -29,12 +30,12 @@ whole_number name low high usual = record (new_rule name) {
 -- the arguments in the order in which they are declared
 abbrev pub arguments : List Rule
 arguments = command_word
-    ∷ whole_number (codes "rows") 1 16777216 (codes "262144")
-    ∷ whole_number (codes "memo") 1 16777216 (codes "65536")
-    ∷ whole_number (codes "depth") 1 1000 (codes "500")
-    ∷ whole_number (codes "seed") 0 65535 (codes "1")
-    ∷ whole_number (codes "nodes") 1 1000000 (codes "1000")
-    ∷ whole_number (codes "sessions") 1 64 (codes "1") ∷ []
+    ∷ whole_number (codes "rows") 1 ROW_LIMIT (codes "262144")
+    ∷ whole_number (codes "memo") 1 MEMO_LIMIT (codes "65536")
+    ∷ whole_number (codes "depth") 1 DEPTH_LIMIT (codes "500")
+    ∷ whole_number (codes "seed") 0 SEED_LIMIT (codes "1")
+    ∷ whole_number (codes "nodes") 1 TREE_LIMIT (codes "1000")
+    ∷ whole_number (codes "sessions") 1 SESSION_LIMIT (codes "1") ∷ []
 
 -- the command, with nothing but these arguments
 unfoldable pub COMMAND : App
@@ -81,12 +82,12 @@ pub record Says (words : List Text) (command : Command) : Type 0 where
 
 -- each number is within its range
 pub record IsWithinRanges (command : Command) : Type 0 where
-  pub rows : (1 ≤ command.rows) × (command.rows ≤ 16777216)
-  pub memo : (1 ≤ command.memo) × (command.memo ≤ 16777216)
-  pub depth : (1 ≤ command.depth) × (command.depth ≤ 1000)
-  pub seed : command.seed ≤ 65535
-  pub nodes : (1 ≤ command.nodes) × (command.nodes ≤ 1000000)
-  pub sessions : (1 ≤ command.sessions) × (command.sessions ≤ 64)
+  pub rows : (1 ≤ command.rows) × (command.rows ≤ ROW_LIMIT)
+  pub memo : (1 ≤ command.memo) × (command.memo ≤ MEMO_LIMIT)
+  pub depth : (1 ≤ command.depth) × (command.depth ≤ DEPTH_LIMIT)
+  pub seed : command.seed ≤ SEED_LIMIT
+  pub nodes : (1 ≤ command.nodes) × (command.nodes ≤ TREE_LIMIT)
+  pub sessions : (1 ≤ command.sessions) × (command.sessions ≤ SESSION_LIMIT)
 
 -- the command does not take the words
 abbrev pub AreRefused : List Text → Type 0

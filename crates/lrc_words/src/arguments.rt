@@ -5,6 +5,7 @@ ghost use Rattle.lrc_words.specs.CommandLine.{COMMAND, command_word, whole_numbe
 
 use clap::{Arg, ArgAction};
 use lrc_base::Memory;
+use lrc_base::limits::{DEPTH_LIMIT, MEMO_LIMIT, ROW_LIMIT, SEED_LIMIT, SESSION_LIMIT, TREE_LIMIT};
 use std::alloc::Global;
 
 // The word for what is to be done.
@@ -34,10 +35,10 @@ pub fn command<'a>(alloc: Global) -> Result<clap::Command<'a>, Memory>
 {
     clap::Command::new(alloc, "lrc")
         .arg(command_word(alloc))?
-        .arg(whole_number(alloc, "rows", 1, 16_777_216, "262144"))?
-        .arg(whole_number(alloc, "memo", 1, 16_777_216, "65536"))?
-        .arg(whole_number(alloc, "depth", 1, 1_000, "500"))?
-        .arg(whole_number(alloc, "seed", 0, 65_535, "1"))?
-        .arg(whole_number(alloc, "nodes", 1, 1_000_000, "1000"))?
-        .arg(whole_number(alloc, "sessions", 1, 64, "1"))
+        .arg(whole_number(alloc, "rows", 1, ROW_LIMIT, "262144"))?
+        .arg(whole_number(alloc, "memo", 1, MEMO_LIMIT, "65536"))?
+        .arg(whole_number(alloc, "depth", 1, DEPTH_LIMIT, "500"))?
+        .arg(whole_number(alloc, "seed", 0, SEED_LIMIT, "1"))?
+        .arg(whole_number(alloc, "nodes", 1, TREE_LIMIT, "1000"))?
+        .arg(whole_number(alloc, "sessions", 1, SESSION_LIMIT as u32, "1"))
 }

@@ -1,11 +1,9 @@
-use Rattle.std.proofs.Common.{◌≡◌, ◌≤◌, IsTrue, List, length, None, Some, sym, subst, ◌∙◌}
-use Rattle.std.specs.List.{list_all}
+use Rattle.std.proofs.Common.{◌≡◌, ◌≤◌, All, List, length, None, Some, sym, subst, ◌∙◌}
+use Rattle.lrc_base.specs.declared.limits.TheConstants.{PRODUCTION_LIMIT}
 use Rattle.lrc_base.specs.declared.grammar.Production.{Production}
 use Rattle.lrc_meaning.specs.Tree.{tree}
-use Rattle.lrc_grammar.specs.Grammar.{grammar_of}
-use Rattle.lrc_grammar.specs.Limits.{has_few_parts}
+use Rattle.lrc_meaning.specs.Limits.{IsFew}
 use Rattle.lrc_job.specs.TermLaws.{NamesFitting}
-use Rattle.lrc_job.proofs.ResolvedLemmas.{few_productions}
 use Rattle.lrc_job.proofs.TermLawLemmas.{found_fits}
 use Rattle.lrc_job.proofs.term.resolve.Goals as goal
 
@@ -18,11 +16,11 @@ unreachable-requires c =
 
 pub term_of-requires-clause-prods : goal.term_of-requires-clause-prods
 term_of-requires-clause-prods c =
-    subst (λ (ps : List Production). length ps ≤ 256) (sym c.as_slice-prods.ensures) (few_productions (grammar_of c.args.grammar.now) c.args.grammar.now.few).0
+    subst (λ (ps : List Production). length ps ≤ PRODUCTION_LIMIT) (sym c.as_slice-prods.ensures) c.args.grammar.now.few.prods
 
 pub term_of-requires-clause-parts : goal.term_of-requires-clause-parts
 term_of-requires-clause-parts c =
-    subst (λ ps. IsTrue (list_all has_few_parts ps)) (sym c.as_slice-prods.ensures) (few_productions (grammar_of c.args.grammar.now) c.args.grammar.now.few).1
+    subst (λ (ps : List Production). All IsFew ps) (sym c.as_slice-prods.ensures) c.args.grammar.now.few.parts
 
 pub returns-clause-fitting : goal.returns-clause-fitting
 returns-clause-fitting c =
