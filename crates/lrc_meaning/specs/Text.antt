@@ -2,6 +2,7 @@
 use Rattle.std.specs.Prelude.{ℕ, ◌+◌, Bool, true, false, nat_lt, List, [], ◌∷◌, ◌++◌, length, flat_map, Option, Some, None, slice_get, codes, decimal, if◌then◌else◌, cond}
 use Rattle.std.specs.Fmt.{signed_decimal}
 use Rattle.std.specs.Option.{option_map_or}
+use Rattle.lrc_base.specs.declared.limits.TheConstants.{PRINT_LIMIT}
 use Rattle.lrc_base.specs.declared.grammar.Attr.{Attr}
 use Rattle.lrc_base.specs.declared.grammar.Piece.{Piece}
 use Rattle.lrc_base.specs.declared.grammar.Piece.TheVariants as piece
@@ -65,7 +66,7 @@ module _ (prods : List Production) where
 
 -- the text of a value or of a tree prints as `<long>` where it has more than 65,536 bytes
 abbrev pub limited : List ℕ → List ℕ
-limited text = if nat_lt 65536 (length text) then codes "<long>" else text
+limited text = if nat_lt PRINT_LIMIT (length text) then codes "<long>" else text
 
 abbrev pub line_feed : List ℕ
 line_feed = 10 ∷ []
