@@ -9,6 +9,7 @@ mod grammar;
 mod job;
 mod name;
 mod raw;
+mod signature;
 mod term;
 #[cfg(test)]
 mod tests;
@@ -20,6 +21,7 @@ pub use name::NameText;
 pub use raw::{
     RawAttr, RawExpr, RawGrammar, RawItem, RawKid, RawKind, RawPiece, RawProd, RawSort, RawTerm,
 };
+pub use signature::{Occurrence, Origin, Signature, Symbol};
 pub use sqlite_items::{Boxed, Items};
 pub use std::alloc::AllocError;
 pub use term::Term;

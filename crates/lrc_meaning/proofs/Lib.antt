@@ -3,3 +3,4 @@ pub mod ExpressionLemmas
 pub mod ExampleLemmas
 pub mod ListLemmas
 pub mod KindLemmas
+pub mod SignatureLemmas

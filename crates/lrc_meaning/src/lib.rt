@@ -9,6 +9,7 @@ ghost use Rattle.std.specs.Prelude.{◌≡◌, ℕ, pos, [], ◌∷◌, IsTrue, 
 ghost use Rattle.lrc_meaning.specs.Tree.{Tree, int, fits};
 ghost use Rattle.lrc_meaning.specs.Grammar.{is_well_formed};
 ghost use Rattle.lrc_meaning.specs.Attribution.{Attributes, IsAttribution};
+ghost use Rattle.lrc_meaning.specs.Signature.{TellsRoles, TellsCalls};
 ghost use Rattle.lrc_meaning.specs.Examples.{sums, one_and_two, decorated_sum, declarations, two_declarations};
 
 /// The sum grammar and the declarations grammar are well formed.
@@ -30,4 +31,11 @@ pub fn a_wrong_value_is_no_attribution()
 /// Two declarations under an inherited environment, with a local each: both are bad.
 pub fn two_declarations_are_bad()
     ensures { Attributes declarations 4 two_declarations (int (pos 2) ∷ []) }
+{}
+
+/// The signature of a production tells what stands at each of its occurrences, and what each is
+/// called.
+pub fn a_signature_tells_each_occurrence()
+    ensures roles { TellsRoles }
+    ensures calls { TellsCalls }
 {}

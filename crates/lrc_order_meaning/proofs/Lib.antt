@@ -6,3 +6,4 @@ pub mod TransitiveLemmas
 pub mod GreatestLemmas
 pub mod TurnLemmas
 pub mod MemberLemmas
+pub mod SignedLemmas
