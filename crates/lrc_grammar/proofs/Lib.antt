@@ -2,3 +2,4 @@ pub mod FittingLemmas
 pub mod KindLemmas
 pub mod NameLemmas
 pub mod ListLemmas
+pub mod SignatureLemmas

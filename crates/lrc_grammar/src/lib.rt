@@ -11,6 +11,7 @@ mod names;
 mod occurrences;
 mod plain;
 mod production_checks;
+mod signature;
 
 pub use fitting::{fits, is_within, same_kind};
 pub use grammar::Grammar;
