@@ -10,6 +10,7 @@ mod job;
 pub mod limits;
 mod name;
 mod raw;
+mod signature;
 mod term;
 
 pub use expr::{Expr, Op};
@@ -19,6 +20,7 @@ pub use name::NameText;
 pub use raw::{
     RawAttr, RawExpr, RawGrammar, RawItem, RawKid, RawKind, RawPiece, RawProd, RawSort, RawTerm,
 };
+pub use signature::{Occurrence, Origin, Signature, Symbol};
 pub use sqlite_items::{Boxed, Items};
 pub use std::alloc::AllocError;
 pub use term::Term;

@@ -21,11 +21,7 @@ fn faultless(alloc: Global, raw: &RawGrammar) -> Result<Grammar, Memory>
 {
     no_fault_is_well_formed();
     match named_grammar(alloc, raw)? {
-        Some(numbered) => Ok(Grammar {
-            sorts: numbered.sorts,
-            prods: numbered.prods,
-            start: numbered.start,
-        }),
+        Some(numbered) => { Grammar::of(alloc, numbered.sorts, numbered.prods, numbered.start) }
         None => unreachable!(),
     }
 }

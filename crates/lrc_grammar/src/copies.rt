@@ -1,6 +1,8 @@
 ghost use Rattle.std.specs.Prelude.{◌≡◌, IfOk};
 
-use lrc_base::{Attr, Boxed, Equation, Expr, Extra, Kid, List, Memory, Piece, Production, Sort};
+use lrc_base::{
+    Attr, Boxed, Equation, Expr, Extra, Kid, List, Memory, Piece, Production, Signature, Sort,
+};
 use std::alloc::Global;
 
 fn copied_attrs(alloc: Global, attrs: &[Attr]) -> Result<List<Attr>, Memory>
@@ -170,6 +172,29 @@ pub fn copied_productions(alloc: Global, prods: &[Production]) -> Result<List<Pr
     let mut copies = Vec::with_capacity(alloc, prods.len())?;
     for production in prods {
         copies.push(copied_production(alloc, production)?)?;
+    }
+    Ok(List::from_vec(copies))
+}
+
+fn copied_signature(alloc: Global, signature: &Signature) -> Result<Signature, Memory>
+    ensures { IfOk result (λ copy. copy ≡ signature.now) }
+{
+    let occurrences = List::from_slice(alloc, signature.occurrences.as_slice())?;
+    let equations = List::from_slice(alloc, signature.equations.as_slice())?;
+    Ok(Signature {
+        occurrences,
+        equations,
+        symbols: List::from_slice(alloc, signature.symbols.as_slice())?,
+    })
+}
+
+/// Equal signatures, with memory of their own.
+pub fn copied_signatures(alloc: Global, signatures: &[Signature]) -> Result<List<Signature>, Memory>
+    ensures { IfOk result (λ copy. copy ≡ signatures.now) }
+{
+    let mut copies = Vec::with_capacity(alloc, signatures.len())?;
+    for signature in signatures {
+        copies.push(copied_signature(alloc, signature)?)?;
     }
     Ok(List::from_vec(copies))
 }

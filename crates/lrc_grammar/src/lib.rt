@@ -7,6 +7,7 @@ mod grammar;
 mod kinds;
 mod occurrences;
 mod plain;
+mod signature;
 
 pub use fitting::{is_within, same_kind};
 pub use grammar::Grammar;

@@ -5,3 +5,4 @@ pub mod ListLemmas
 pub mod NodeLemmas
 pub mod KindLemmas
 pub mod EditLemmas
+pub mod SignatureLemmas

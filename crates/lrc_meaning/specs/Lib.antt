@@ -5,6 +5,7 @@ pub mod Attribution
 pub mod Editing
 pub mod Text
 pub mod Naming
+pub mod Signature
 pub mod Plain
 pub mod Limits
 pub mod Examples

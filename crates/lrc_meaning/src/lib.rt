@@ -10,6 +10,7 @@ ghost use Rattle.lrc_meaning.specs.Tree.{Tree, int, fits};
 ghost use Rattle.lrc_meaning.specs.Grammar.{is_well_formed};
 ghost use Rattle.lrc_meaning.specs.Attribution.{Attributes, IsAttribution};
 ghost use Rattle.lrc_meaning.specs.Editing.{RepliesTellTheRest};
+ghost use Rattle.lrc_meaning.specs.Signature.{TellsRoles, TellsCalls};
 ghost use Rattle.lrc_meaning.specs.Examples.{sums, one_and_two, decorated_sum, declarations, two_declarations};
 
 /// The sum grammar and the declarations grammar are well formed.
@@ -36,4 +37,11 @@ pub fn two_declarations_are_bad()
 /// The last tree of a session and all its attempts are fixed by its tree, its edits and their replies.
 pub fn replies_tell_the_rest()
     ensures { RepliesTellTheRest }
+{}
+
+/// The signature of a production tells what stands at each of its occurrences, and what each is
+/// called.
+pub fn a_signature_tells_each_occurrence()
+    ensures roles { TellsRoles }
+    ensures calls { TellsCalls }
 {}

@@ -7,3 +7,4 @@ pub mod GreatestLemmas
 pub mod TurnLemmas
 pub mod MemberLemmas
 pub mod OrderLemmas
+pub mod SignedLemmas

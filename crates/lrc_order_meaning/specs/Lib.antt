@@ -1,4 +1,5 @@
 pub mod Needs
+pub mod Signed
 pub mod Induced
 pub mod Sets
 pub mod Extended

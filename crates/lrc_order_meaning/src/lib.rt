@@ -7,6 +7,7 @@
 ghost use Rattle.std.specs.Prelude.{[]};
 ghost use Rattle.lrc_meaning.specs.Examples.{declarations};
 ghost use Rattle.lrc_order_meaning.specs.Induced.{Induced};
+ghost use Rattle.lrc_order_meaning.specs.Signed.{TellsSymbols};
 ghost use Rattle.lrc_order_meaning.specs.Sets.{IsVisits, IsVisitOf};
 ghost use Rattle.lrc_order_meaning.specs.Ordered.{IsInducedCycle};
 ghost use Rattle.lrc_order_meaning.specs.Examples.{crossing};
@@ -71,4 +72,9 @@ pub fn one_look_tells_a_set()
 pub fn sets_come_in_turn()
     ensures none_is_empty { NoneIsEmpty }
     ensures in_turn { SetsComeInTurn }
+{}
+
+/// The signature of a production tells the places of its symbols.
+pub fn a_signature_tells_each_symbol()
+    ensures { TellsSymbols }
 {}
