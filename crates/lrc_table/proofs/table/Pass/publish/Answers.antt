@@ -10,9 +10,10 @@ returns-then-found-eq0-clause-seeks g c =
     exchanged_own c.args.self.now c.draft.new.self c.exchange-found.new.self _ c.args.content c.args.place _ c.requires.current c.requires.path c.draft.ensures c.exchange-found.ensures.table c.exchange-found.ensures.exchanges c.if-found-eq0.true
 
 pub returns-then-found-eq0-clause-claims : goal.returns-then-found-eq0-clause-claims
-returns-then-found-eq0-clause-claims g c =
-    (own_stands c.args.self.now c.draft.new.self c.exchange-found.new.self _ c.args.content c.args.place _ _ c.requires.current c.requires.path c.draft.ensures c.exchange-found.ensures.exchanges c.if-found-eq0.true c.last.ensures,
-    IsUnnoted-room c.args.self.now c.exchange-found.new.self c.requires.room)
+returns-then-found-eq0-clause-claims g c = (
+  own_stands c.args.self.now c.draft.new.self c.exchange-found.new.self _ c.args.content c.args.place _ _ c.requires.current c.requires.path c.draft.ensures c.exchange-found.ensures.exchanges c.if-found-eq0.true c.last.ensures,
+  IsUnnoted-room c.args.self.now c.exchange-found.new.self c.requires.room,
+)
 
 pub returns-else-found-eq0-clause-seeks : goal.returns-else-found-eq0-clause-seeks
 returns-else-found-eq0-clause-seeks g c =

@@ -12,10 +12,12 @@ returns-then-eq-clause-seeks g c = Seeks-reads c.args.self.now c.claim.new.self 
 
 pub returns-then-eq-clause-answers : goal.returns-then-eq-clause-answers
 returns-then-eq-clause-answers g c = let q = c.claim.new.self in let r = c.content_of.new.self in let f = c.in-Taken.ensures.seeks.follows in (
-  (taken_stands q r _ c.args.content c.content_of.result c.args.place c.in-Taken.handle.0 c.content_of.ensures.reads f.current c.in-Taken.ensures.claims.0
-      (Fits-later q.view r.view _ _ f.current c.content_of.ensures.reads.follows (Fits-later c.args.self.now.view q.view _ _ c.requires.current f c.requires.path.fits))
-      c.content_of.ensures.content (same_content c.content_of.result c.args.content (sym c.if-eq.true ∙ c.eq.ensures)),
-      λ used. c.content_of.ensures.reads.notes ∙ c.in-Taken.ensures.claims.2 used),
+  (
+    taken_stands q r _ c.args.content c.content_of.result c.args.place c.in-Taken.handle.0 c.content_of.ensures.reads f.current c.in-Taken.ensures.claims.0
+        (Fits-later q.view r.view _ _ f.current c.content_of.ensures.reads.follows (Fits-later c.args.self.now.view q.view _ _ c.requires.current f c.requires.path.fits))
+        c.content_of.ensures.content (same_content c.content_of.result c.args.content (sym c.if-eq.true ∙ c.eq.ensures)),
+    λ used. c.content_of.ensures.reads.notes ∙ c.in-Taken.ensures.claims.2 used,
+  ),
   tt,
 )
 
