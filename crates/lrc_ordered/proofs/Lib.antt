@@ -17,3 +17,4 @@ pub mod OrderLemmas
 pub mod ExtendLemmas
 pub mod AllLemmas
 pub mod SmallLemmas
+pub mod SignedLemmas

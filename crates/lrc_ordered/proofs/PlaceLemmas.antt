@@ -12,19 +12,11 @@ use Rattle.lrc_base.specs.declared.grammar.Production.{Production}
 use Rattle.std.specs.List.{flat_map}
 use Rattle.lrc_meaning.specs.Grammar.{occurrences_of, own_occurrence, attrs_of_sort, attrs_of, symbol_occurrence, extra_occurrences}
 use Rattle.lrc_order_meaning.specs.Needs.{left_place, symbols_of, places_of, own_end, symbol_of, kid_symbols, extra_symbols, kid_count, extra_count, kids_end}
-use Rattle.lrc_grammar.proofs.FittingLemmas.{next_left}
+use Rattle.lrc_base.specs.declared.signature.Signature.{Signature}
+use Rattle.lrc_meaning.specs.Signature.{signature_of}
+use Rattle.lrc_order_meaning.specs.Signed.{place_of}
+use Rattle.lrc_order_meaning.proofs.SignedLemmas.{signed_places}
 use Rattle.std.specs.Prelude.{None, Some, cond}
-
-pub next_kid_symbols : (sorts : List Sort) (at : ℕ) (kids : List Kid) (i : ℕ) (kid : Kid) → i < length kids → kid ≡ get_or kids i kid
-    → kid_symbols sorts at (drop i kids) ≡ symbol_of kid.kind at None ++ kid_symbols sorts (at + length (attrs_of sorts kid.kind)) (drop (i + 1) kids)
-next_kid_symbols sorts at kids i kid h e = ap (kid_symbols sorts at) (next_left kids i kid h e)
-
-pub next_kid_count : (sorts : List Sort) (kids : List Kid) (i : ℕ) (kid : Kid) → i < length kids → kid ≡ get_or kids i kid
-    → kid_count sorts (drop i kids) ≡ length (attrs_of sorts kid.kind) + kid_count sorts (drop (i + 1) kids)
-next_kid_count sorts kids i kid h e =
-    ap (kid_count sorts) (next_left kids i kid h e)
-    ∙ length-append (map symbol_occurrence (attrs_of sorts kid.kind)) _
-    ∙ ap (λ n. n + kid_count sorts (drop (i + 1) kids)) (length-map (attrs_of sorts kid.kind) symbol_occurrence)
 
 -- how many occurrences a production has
 pub occurrence_count : (sorts : List Sort) (p : Production) → length (occurrences_of sorts p) ≡ kids_end sorts p + extra_count sorts p.extras
@@ -34,24 +26,17 @@ occurrence_count sorts p =
     let count = length-map (attrs_of_sort sorts p.left) own_occurrence in
     omega arith
 
-pub ruleset kid_steps = (next_kid_symbols, next_kid_count)
-
-pub next_extra_symbols : (sorts : List Sort) (at : ℕ) (xs : List Extra) (i : ℕ) (x : Extra) → i < length xs → x ≡ get_or xs i x
-    → extra_symbols sorts at (drop i xs)
-    ≡ cond x.attached (symbol_of x.kind (at + 1) (Some at)) [] ++ extra_symbols sorts (at + length (extra_occurrences sorts x)) (drop (i + 1) xs)
-next_extra_symbols sorts at xs i x h e = ap (extra_symbols sorts at) (next_left xs i x h e)
-
-pub next_extra_count : (sorts : List Sort) (xs : List Extra) (i : ℕ) (x : Extra) → i < length xs → x ≡ get_or xs i x
-    → extra_count sorts (drop i xs) ≡ length (extra_occurrences sorts x) + extra_count sorts (drop (i + 1) xs)
-next_extra_count sorts xs i x h e = ap (extra_count sorts) (next_left xs i x h e) ∙ length-append (extra_occurrences sorts x) _
-
 pub attached_length : (sorts : List Sort) (x : Extra) → x.attached ≡ true → length (extra_occurrences sorts x) ≡ 1 + length (attrs_of sorts x.kind)
 attached_length sorts x e = simp (e, length-map, one-add) refl
 
 pub local_length : (sorts : List Sort) (x : Extra) → x.attached ≡ false → length (extra_occurrences sorts x) ≡ 1
 local_length sorts x e = simp e refl
 
-pub ruleset extra_steps = (next_extra_symbols, next_extra_count, attached_length, local_length)
+-- the places of a production, read off its signature
+pub signed_places_of : (sorts : List Sort) (p : Production) (signature : Signature) → signature ≡ signature_of sorts p
+    → left_place p ∷ map place_of signature.symbols ≡ places_of sorts p
+signed_places_of sorts p signature is =
+    ap (λ (s : Signature). left_place p ∷ map place_of s.symbols) is ∙ ap (λ places. left_place p ∷ places) (signed_places sorts p)
 
 -- the attributes at a place are occurrences below a number
 abbrev pub IsWithin : List Sort → ℕ → Place → Type 0

@@ -2,7 +2,12 @@
 use Rattle.std.proofs.Common.{◌≡◌, ℕ, zero, suc, ◌+◌, ◌<◌, ◌≤◌, List, [], ◌∷◌, ◌++◌, map, take, set, length, get_or, Contains, ◌⊎◌, ◌↔◌, inl, inr, refl, sym, ap, ap₂, ◌∙◌, subst, arith, add-one, take-suc, take_all}
 use Rattle.std.specs.List.{AllZip}
 use Rattle.std.proofs.lemmas.Bool.{cases_eq}
+use Rattle.std.proofs.lemmas.List.{length-map}
 use Rattle.lrc_base.specs.declared.grammar.Given.{Given}
+use Rattle.lrc_base.specs.declared.grammar.Sort.{Sort}
+use Rattle.lrc_base.specs.declared.grammar.Production.{Production}
+use Rattle.lrc_base.specs.declared.signature.Signature.{Signature}
+use Rattle.lrc_meaning.specs.Signature.{signature_of}
 use Rattle.lrc_graph.specs.Pairs.{Pairs, Has, HasExactly, With, Path}
 use Rattle.lrc_order_meaning.specs.declared.Place.{Place}
 use Rattle.lrc_ordered.specs.Tables.{table_at, HasAt}
@@ -42,6 +47,32 @@ pub map_at : {A B : Type 0} (f : A → B) (xs : List A) (i : ℕ) (d : B) (e : A
 map_at f [] i d e h = absurd (omega arith)
 map_at f (x ∷ xs) zero d e h = refl
 map_at f (x ∷ xs) (suc i) d e h = map_at f xs i d e (omega arith)
+
+some_at : {A : Type 0} (xs : List A) (i : ℕ) → i < length xs → (x : A) × (x ≡ get_or xs i x)
+some_at [] i h = absurd (omega arith)
+some_at (x ∷ xs) zero h = (x, refl)
+some_at (x ∷ xs) (suc i) h = some_at xs i (omega arith)
+
+-- the signature of a number is that of the production of this number
+pub record IsSignedAt (sorts : List Sort) (prods : List Production) (i : ℕ) (signature : Signature) : Type 0 where
+  pub production : Production
+  pub there : production ≡ get_or prods i production
+  pub is : signature ≡ signature_of sorts production
+
+module _ (sorts : List Sort) (prods : List Production) (signatures : List Signature) (made : signatures ≡ map (signature_of sorts) prods) where
+  pub signed_length : length signatures ≡ length prods
+  signed_length = ap length made ∙ length-map prods (signature_of sorts)
+
+  pub signed_is : (i : ℕ) (p : Production) (s : Signature) → i < length prods → p ≡ get_or prods i p → s ≡ get_or signatures i s → s ≡ signature_of sorts p
+  signed_is i p s h there e =
+      e ∙ ap (λ (xs : List Signature). get_or xs i s) made ∙ map_at (signature_of sorts) prods i s p h ∙ ap (signature_of sorts) (sym there)
+
+  pub signed_at : (i : ℕ) (s : Signature) → i < length prods → s ≡ get_or signatures i s → IsSignedAt sorts prods i s
+  signed_at i s h e =
+      let found = some_at prods i h in
+      record { production = found.0; there = found.1; is = signed_is i found.0 s h found.1 e }
+
+pub ruleset signed_steps = (signed_length, signed_is)
 
 same_need : (x y : ℕ) (n : Need) → x ≡ n.first → y ≡ n.then → n ≡ need x y
 same_need x y n e f = ap₂ need (sym e) (sym f)

@@ -66,9 +66,9 @@ pub fn induced(alloc: Global, grammar: &Grammar, given: &[Given]) -> Result<Tabl
 {
     let sorts = grammar.sorts.as_slice();
     let prods = grammar.prods.as_slice();
-    let places = all_places(alloc, sorts, prods)?;
+    let places = all_places(alloc, grammar)?;
     let needs = all_needs(alloc, sorts, prods, places.as_slice())?;
-    let relations = closed_tables(alloc, sorts, prods, needs.as_slice())?;
+    let relations = closed_tables(alloc, grammar, needs.as_slice())?;
     let handed = with_given(empty_tables(alloc, sorts)?, places.as_slice(), given);
     let (relations, sorts) = settled(relations, handed, places.as_slice());
     Ok(Tables {

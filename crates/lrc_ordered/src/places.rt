@@ -1,95 +1,56 @@
-ghost use Rattle.std.specs.Prelude.{◌≡◌, ◌+◌, ◌<◌, ◌^◌, ◌++◌, ◌∷◌, [], length, IfOk, OnOk};
-ghost use Rattle.lrc_meaning.specs.Grammar.{occurrences_of, extra_occurrences};
-ghost use Rattle.lrc_order_meaning.specs.Needs.{symbol_of, kid_symbols, extra_symbols, kid_count, extra_count, places_of, own_end};
+ghost use Rattle.std.specs.Prelude.{◌≡◌, ◌++◌, ◌∷◌, List, map, IfOk, OnOk};
+ghost use Rattle.lrc_base.specs.declared.grammar.Sort as base;
+ghost use Rattle.lrc_meaning.specs.Signature.{signature_of};
+ghost use Rattle.lrc_order_meaning.specs.Needs.{places_of};
+ghost use Rattle.lrc_order_meaning.specs.Signed.{tree_at, place_of};
 
-use lrc_base::{Extra, Kid, Kind, List, Memory, Production, Sort};
-use lrc_grammar::{attrs_of, attrs_of_sort};
+use lrc_base::{List, Memory, Origin, Production, Signature, Symbol};
 use lrc_order_meaning::Place;
 use std::alloc::Global;
 
-/// Puts the place of a symbol of this kind behind the others; a leaf is no symbol.
-fn push_symbol(
-    places: &mut List<Place>,
-    kind: Kind,
-    start: u32,
-    tree: Option<u32>,
-) -> Result<(), Memory>
-    ensures { OnOk result (places.new ≡ places.old ++ symbol_of kind start tree) }
+/// The occurrence whose value is a symbol's tree; None where the tree is a child.
+fn tree_at(origin: Origin) -> Option<u32>
+    ensures { result ≡ tree_at origin }
 {
-    match kind {
-        Kind::Int | Kind::Bool | Kind::Name => Ok(()),
-        Kind::Sort(sort) => places.push(Place { sort, start, tree }),
+    match origin {
+        Origin::Child(_) => None,
+        Origin::Value(occurrence) => Some(occurrence),
     }
 }
 
-/// Puts the symbols among children behind the others. The answer is the occurrence behind those of
-/// the children.
-#[tactic(auto, using(crate::proofs::PlaceLemmas::kid_steps))]
-fn push_kid_symbols(
-    places: &mut List<Place>,
-    sorts: &[Sort],
-    start: u32,
-    kids: &[Kid],
-) -> Result<u32, Memory>
-    requires { start + kid_count sorts.now kids.now < 2 ^ 32 }
-    ensures places { OnOk result (places.new ≡ places.old ++ kid_symbols sorts.now start kids.now) }
-    ensures end { IfOk result (λ end. end ≡ start + kid_count sorts.now kids.now) }
+/// The place of a symbol.
+fn place_of(symbol: &Symbol) -> Place
+    ensures { result ≡ place_of symbol.now }
 {
-    let mut at = start;
-    for kid in kids {
-        push_symbol(places, kid.kind, at, None)?;
-        at += attrs_of(sorts, kid.kind).len() as u32;
-    }
-    Ok(at)
-}
-
-/// How many occurrences a local or a nonterminal attribute has.
-#[tactic(auto, using(crate::proofs::PlaceLemmas::extra_steps))]
-fn extra_len(sorts: &[Sort], extra: &Extra) -> usize
-    requires { length (extra_occurrences sorts.now extra.now) < 2 ^ 32 }
-    ensures { result ≡ length (extra_occurrences sorts.now extra.now) }
-{
-    if extra.attached {
-        1 + attrs_of(sorts, extra.kind).len()
-    } else {
-        1
+    Place {
+        sort: symbol.sort,
+        start: symbol.start,
+        tree: tree_at(symbol.origin),
     }
 }
 
-/// Puts the nonterminal attributes behind the other symbols.
-#[tactic(auto, using(crate::proofs::PlaceLemmas::extra_steps))]
-fn push_extra_symbols(
-    places: &mut List<Place>,
-    sorts: &[Sort],
-    start: u32,
-    extras: &[Extra],
-) -> Result<(), Memory>
-    requires { start + extra_count sorts.now extras.now < 2 ^ 32 }
-    ensures { OnOk result (places.new ≡ places.old ++ extra_symbols sorts.now start extras.now) }
+/// Puts the places of symbols behind the others.
+fn push_places(places: &mut List<Place>, symbols: &[Symbol]) -> Result<(), Memory>
+    ensures { OnOk result (places.new ≡ places.old ++ map place_of symbols.now) }
 {
-    let mut at = start;
-    for extra in extras {
-        if extra.attached {
-            push_symbol(places, extra.kind, at + 1, Some(at))?;
-        }
-        at += extra_len(sorts, extra) as u32;
+    for symbol in symbols {
+        places.push(place_of(symbol))?;
     }
     Ok(())
 }
 
-/// The places of sorts in a production: the left side, then the symbols.
+/// The places of sorts in a production with this signature: the left side, then the symbols.
 ///
 /// # Errors
 ///
 /// Want of memory.
-#[tactic(auto, using(crate::proofs::PlaceLemmas::occurrence_count))]
+#[tactic(auto, using(crate::proofs::PlaceLemmas::signed_places_of))]
 pub fn places_of(
     alloc: Global,
-    sorts: &[Sort],
     production: &Production,
+    signature: &Signature,
 ) -> Result<List<Place>, Memory>
-    requires { length (occurrences_of sorts.now production.now) < 2 ^ 32 }
-    ensures { IfOk result (λ places. places ≡ places_of sorts.now production.now) }
+    ensures { (sorts : List base.Sort) → signature.now ≡ signature_of sorts production.now → IfOk result (λ places. places ≡ places_of sorts production.now) }
 {
     let mut places = List::new(alloc);
     places.push(Place {
@@ -97,8 +58,6 @@ pub fn places_of(
         start: 0,
         tree: None,
     })?;
-    let own_end = attrs_of_sort(sorts, production.left).len() as u32;
-    let kids_end = push_kid_symbols(&mut places, sorts, own_end, production.kids.as_slice())?;
-    push_extra_symbols(&mut places, sorts, kids_end, production.extras.as_slice())?;
+    push_places(&mut places, signature.symbols.as_slice())?;
     Ok(places)
 }

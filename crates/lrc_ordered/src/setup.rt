@@ -12,23 +12,21 @@ ghost use Rattle.lrc_ordered.specs.Tables.{table_at, HasAt};
 use crate::needs::needs_of;
 use crate::places::places_of;
 use lrc_base::{Given, List, Memory, Production, Sort};
-use lrc_grammar::occurrences_of;
+use lrc_grammar::Grammar;
 use lrc_graph::Relation;
 use lrc_order_meaning::{Need, Place};
 use std::alloc::Global;
 
 /// The places of each production.
-pub fn all_places(
-    alloc: Global,
-    sorts: &[Sort],
-    prods: &[Production],
-) -> Result<List<List<Place>>, Memory>
-    requires { All (λ p. length (occurrences_of sorts.now p) < 1024) prods.now }
-    ensures { IfOk result (λ all. all ≡ map (order.places_of sorts.now) prods.now) }
+#[tactic(auto, using(crate::proofs::SetupLemmas::signed_steps))]
+pub fn all_places(alloc: Global, grammar: &Grammar) -> Result<List<List<Place>>, Memory>
+    ensures { IfOk result (λ all. all ≡ map (order.places_of grammar.now.sorts) grammar.now.prods) }
 {
+    let prods = grammar.prods.as_slice();
+    let signatures = grammar.signatures.as_slice();
     let mut all = List::new(alloc);
-    for production in prods {
-        all.push(places_of(alloc, sorts, production)?)?;
+    for i in 0..prods.len() {
+        all.push(places_of(alloc, &prods[i], &signatures[i])?)?;
     }
     Ok(all)
 }
@@ -62,39 +60,34 @@ pub fn add_needs(relation: &mut Relation, needs: &[Need])
     }
 }
 
-/// The relation of needs over the occurrences of a production.
-pub fn needs_table(
-    alloc: Global,
-    sorts: &[Sort],
-    production: &Production,
-    needs: &[Need],
-) -> Result<Relation, Memory>
-    requires few { length (occurrences_of sorts.now production.now) < 1024 }
-    requires within { All (IsNeedBelow (length (occurrences_of sorts.now production.now))) needs.now }
-    ensures points { IfOk result (λ r. r.points ≡ length (occurrences_of sorts.now production.now)) }
+/// The relation of needs over so many occurrences.
+fn needs_table(alloc: Global, points: u32, needs: &[Need]) -> Result<Relation, Memory>
+    requires few { points < 1024 }
+    requires within { All (IsNeedBelow points) needs.now }
+    ensures points { IfOk result (λ r. r.points ≡ points) }
     ensures pairs { IfOk result (λ r. HasExactly r (λ x y. Contains needs.now (need x y))) }
 {
-    let points = occurrences_of(alloc, sorts, production)?.len() as u32;
     let mut relation = Relation::new(alloc, points)?;
     add_needs(&mut relation, needs);
     Ok(relation)
 }
 
 /// For each production the closed relation of its needs.
+#[tactic(auto, using(crate::proofs::SetupLemmas::signed_steps))]
 pub fn closed_tables(
     alloc: Global,
-    sorts: &[Sort],
-    prods: &[Production],
+    grammar: &Grammar,
     needs: &[List<Need>],
 ) -> Result<Vec<Relation>, Memory>
-    requires few { All (λ p. length (occurrences_of sorts.now p) < 1024) prods.now }
-    requires needs { needs.now ≡ map (order.needs_of sorts.now) prods.now }
-    requires within { All (λ p. All (IsNeedBelow (length (occurrences_of sorts.now p))) (order.needs_of sorts.now p)) prods.now }
-    ensures { IfOk result (λ tables. AllZip (HasNeeds sorts.now) prods.now tables.items) }
+    requires few { All (λ p. length (occurrences_of grammar.now.sorts p) < 1024) grammar.now.prods }
+    requires needs { needs.now ≡ map (order.needs_of grammar.now.sorts) grammar.now.prods }
+    ensures { IfOk result (λ tables. AllZip (HasNeeds grammar.now.sorts) grammar.now.prods tables.items) }
 {
+    let signatures = grammar.signatures.as_slice();
     let mut tables = Vec::new(alloc);
-    for i in 0..prods.len() {
-        let mut relation = needs_table(alloc, sorts, &prods[i], needs[i].as_slice())?;
+    for i in 0..signatures.len() {
+        let points = signatures[i].occurrences.len() as u32;
+        let mut relation = needs_table(alloc, points, needs[i].as_slice())?;
         relation.close();
         tables.push(relation)?;
     }

@@ -12,11 +12,6 @@ use Rattle.lrc_ordered.proofs.SetupLemmas.{IsPut}
 use Rattle.lrc_ordered.proofs.BridgeLemmas.{closed_within, given_within, ready, induced_made}
 use Rattle.lrc_ordered.proofs.induce.induced.Goals as goal
 
-pub closed_tables-requires-clause-within : goal.closed_tables-requires-clause-within
-closed_tables-requires-clause-within c =
-    subst₂ (λ (ss : List Sort) (ps : List Production). All (λ p. All (IsNeedBelow (length (occurrences_of ss p))) (needs_of ss p)) ps)
-    (sym c.as_slice-sorts.ensures) (sym c.as_slice-prods.ensures) (closed_within (grammar_of c.args.grammar.now) c.args.grammar.now.ok)
-
 pub with_given-handed-requires : goal.with_given-handed-requires
 with_given-handed-requires c =
     given_within c.args.grammar.now.sorts c.args.given.now c.in_ok-empty_tables.field-0.items
@@ -26,10 +21,10 @@ pub settled-relations-requires : goal.settled-relations-requires
 settled-relations-requires c =
     let g = c.args.grammar.now in
     let made : c.in_ok-places.places ≡ map (places_of g.sorts) g.prods =
-    c.in_ok-places.ensures ∙ ap₂ (λ (ss : List Sort) (ps : List Production). map (places_of ss) ps) c.as_slice-sorts.ensures c.as_slice-prods.ensures in
+    c.in_ok-places.ensures in
     subst (λ (ps : List (List Place)). AreTables c.in_ok-relations.relations.items c.with_given-handed.result.items ps) (sym c.as_slice-4.ensures)
     (ready (grammar_of g) g.ok c.requires.small c.args.given.now c.in_ok-relations.relations.items c.in_ok-empty_tables.field-0.items c.with_given-handed.result.items c.in_ok-places.places
-    (subst₂ (λ (ss : List Sort) (ps : List Production). AllZip (HasNeeds ss) ps c.in_ok-relations.relations.items) c.as_slice-sorts.ensures c.as_slice-prods.ensures c.in_ok-relations.ensures)
+    c.in_ok-relations.ensures
     made
     (subst (λ (ss : List Sort). AllZip IsEmptyTable ss c.in_ok-empty_tables.field-0.items) c.as_slice-sorts.ensures c.in_ok-empty_tables.ensures)
     c.with_given-handed.ensures.number c.with_given-handed.ensures.points
@@ -40,11 +35,11 @@ pub returns : goal.returns
 returns c =
     let g = c.args.grammar.now in
     let made : c.in_ok-places.places ≡ map (places_of g.sorts) g.prods =
-    c.in_ok-places.ensures ∙ ap₂ (λ (ss : List Sort) (ps : List Production). map (places_of ss) ps) c.as_slice-sorts.ensures c.as_slice-prods.ensures in
+    c.in_ok-places.ensures in
     let needs : c.in_ok-needs.needs ≡ map (needs_of g.sorts) g.prods =
     c.in_ok-needs.ensures ∙ ap₂ (λ (ss : List Sort) (ps : List Production). map (needs_of ss) ps) c.as_slice-sorts.ensures c.as_slice-prods.ensures in
     induced_made (grammar_of g) g.ok c.requires.small c.args.given.now c.in_ok-relations.relations.items c.in_ok-empty_tables.field-0.items c.with_given-handed.result.items c.in_ok-places.places
-    (subst₂ (λ (ss : List Sort) (ps : List Production). AllZip (HasNeeds ss) ps c.in_ok-relations.relations.items) c.as_slice-sorts.ensures c.as_slice-prods.ensures c.in_ok-relations.ensures)
+    c.in_ok-relations.ensures
     made
     (subst (λ (ss : List Sort). AllZip IsEmptyTable ss c.in_ok-empty_tables.field-0.items) c.as_slice-sorts.ensures c.in_ok-empty_tables.ensures)
     c.with_given-handed.ensures.number c.with_given-handed.ensures.points

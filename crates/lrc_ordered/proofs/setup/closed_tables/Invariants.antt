@@ -4,4 +4,4 @@ use Rattle.lrc_ordered.specs.Setup.{HasNeeds}
 use Rattle.lrc_ordered.proofs.setup.closed_tables.Given as goal
 
 abbrev pub invariant-loop-i : goal.invariant-loop-i
-invariant-loop-i l = AllZip (HasNeeds l.sorts) (take l.i l.prods) l.tables.items
+invariant-loop-i l = AllZip (HasNeeds l.grammar.sorts) (take l.i l.grammar.prods) l.tables.items
