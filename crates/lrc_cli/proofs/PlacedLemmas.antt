@@ -1,16 +1,12 @@
 -- The occurrence on a cycle that the ordered test tells is one of its production.
-use Rattle.std.proofs.Common.{◌≡◌, ℕ, zero, suc, ◌<◌, inl, inr, Bool, true, false, IsTrue, List, [], ◌∷◌, ◌++◌, All, Some, map, length, slice_get, refl, arith, length-append}
-use Rattle.std.specs.List.{flat_map, Contains}
+use Rattle.std.proofs.Common.{◌≡◌, ℕ, zero, suc, ◌<◌, inl, inr, Bool, true, false, IsTrue, [], All, Some, length, slice_get, arith}
+use Rattle.std.specs.List.{Contains}
 use Rattle.std.proofs.lemmas.Option.{slice_get_within}
-use Rattle.std.proofs.lemmas.List.{length-map}
 use Rattle.std.proofs.lemmas.List.Elements.{All-contains}
-use Rattle.lrc_base.specs.declared.grammar.Sort.{Sort}
-use Rattle.lrc_base.specs.declared.grammar.Kid.{Kid}
-use Rattle.lrc_base.specs.declared.grammar.Extra.{Extra}
 use Rattle.lrc_base.specs.declared.grammar.Given.{Given}
 use Rattle.lrc_base.specs.declared.grammar.Production.{Production}
-use Rattle.lrc_meaning.specs.Grammar.{Grammar, attrs_of_sort, attrs_of, own_occurrence, symbol_occurrence, extra_occurrences, occurrences_of, is_well_formed}
-use Rattle.lrc_meaning.specs.Naming.{called_own, called_of, called_extra, called_occurrences}
+use Rattle.lrc_meaning.specs.Grammar.{Grammar, attrs_of_sort, occurrences_of, is_well_formed}
+use Rattle.lrc_meaning.proofs.SignatureLemmas.{signed_count}
 use Rattle.lrc_graph.specs.Pairs.{Path, step}
 use Rattle.lrc_graph.specs.Pairs as path
 use Rattle.lrc_order_meaning.specs.Induced as induced
@@ -24,48 +20,6 @@ use Rattle.lrc_ordered.specs.Setup.{IsNeedBelow}
 use Rattle.lrc_ordered.proofs.PlaceLemmas.{IsWithin, places_within}
 use Rattle.lrc_ordered.proofs.BridgeLemmas.{closed_within}
 use Rattle.lrc_cli.specs.Causes.{IsPlaced, IsCycleAt}
-
--- ---- each occurrence is called something
-
-module _ (sorts : List Sort) where
-  as_many_kids : (kids : List Kid) → length (flat_map (λ (kid : Kid). map (called_of kid.name) (attrs_of sorts kid.kind)) kids)
-      ≡ length (flat_map (λ (kid : Kid). map symbol_occurrence (attrs_of sorts kid.kind)) kids)
-  as_many_kids [] = refl
-  as_many_kids (kid ∷ kids) =
-      let rest = as_many_kids kids in
-      let called = length-append (map (called_of kid.name) (attrs_of sorts kid.kind)) (flat_map (λ (k : Kid). map (called_of k.name) (attrs_of sorts k.kind)) kids) in
-      let there = length-append (map symbol_occurrence (attrs_of sorts kid.kind)) (flat_map (λ (k : Kid). map symbol_occurrence (attrs_of sorts k.kind)) kids) in
-      let one = length-map (attrs_of sorts kid.kind) (called_of kid.name) in
-      let other = length-map (attrs_of sorts kid.kind) symbol_occurrence in
-      omega arith
-
-  as_many_extra : (x : Extra) (attached : Bool) → x.attached ≡ attached → length (called_extra sorts x) ≡ length (extra_occurrences sorts x)
-  as_many_extra x true e =
-      let one = length-map (attrs_of sorts x.kind) (called_of x.name) in
-      let other = length-map (attrs_of sorts x.kind) symbol_occurrence in
-      rw (e, one, other) refl
-  as_many_extra x false e = rw e refl
-
-  as_many_extras : (xs : List Extra) → length (flat_map (called_extra sorts) xs) ≡ length (flat_map (extra_occurrences sorts) xs)
-  as_many_extras [] = refl
-  as_many_extras (x ∷ xs) =
-      let rest = as_many_extras xs in
-      let called = length-append (called_extra sorts x) (flat_map (called_extra sorts) xs) in
-      let there = length-append (extra_occurrences sorts x) (flat_map (extra_occurrences sorts) xs) in
-      let one = as_many_extra x x.attached refl in
-      omega arith
-
-  as_many : (p : Production) → length (called_occurrences sorts p.left p.kids p.extras) ≡ length (occurrences_of sorts p)
-  as_many p =
-      let own = length-map (attrs_of_sort sorts p.left) called_own in
-      let own' = length-map (attrs_of_sort sorts p.left) own_occurrence in
-      let kids = as_many_kids p.kids in
-      let extras = as_many_extras p.extras in
-      let called = length-append (map called_own (attrs_of_sort sorts p.left)) (flat_map (λ (kid : Kid). map (called_of kid.name) (attrs_of sorts kid.kind)) p.kids ++ flat_map (called_extra sorts) p.extras) in
-      let called' = length-append (flat_map (λ (kid : Kid). map (called_of kid.name) (attrs_of sorts kid.kind)) p.kids) (flat_map (called_extra sorts) p.extras) in
-      let there = length-append (map own_occurrence (attrs_of_sort sorts p.left)) (flat_map (λ (kid : Kid). map symbol_occurrence (attrs_of sorts kid.kind)) p.kids ++ flat_map (extra_occurrences sorts) p.extras) in
-      let there' = length-append (flat_map (λ (kid : Kid). map symbol_occurrence (attrs_of sorts kid.kind)) p.kids) (flat_map (extra_occurrences sorts) p.extras) in
-      omega arith
 
 -- ---- an attribute that comes before another is one of its sort
 
@@ -116,7 +70,7 @@ module _ (g : Grammar) (well : IsTrue (is_well_formed g)) where
   placed_at production occurrence p is below = record {
     at = p;
     is_there = is;
-    within = let n = below (member_slice g.prods production p is) in let same = as_many g.sorts p in omega arith;
+    within = let n = below (member_slice g.prods production p is) in let same = signed_count g.sorts p in omega arith;
   }
 
   induced_placed : (production occurrence : ℕ) → IsInducedCycle g [] production occurrence → IsPlaced g production occurrence

@@ -4,10 +4,11 @@ use Rattle.std.specs.Prelude.{◌≡◌, ◌≢◌, ◌⊎◌, ℕ, ◌*◌, ◌
 use Rattle.lrc_base.specs.declared.limits.TheConstants.{ROW_LIMIT}
 use Rattle.lrc_base.specs.declared.job.Job.{Job}
 use Rattle.lrc_base.specs.declared.grammar.Production.{Production}
+use Rattle.lrc_base.specs.declared.signature.Occurrence.{Occurrence}
 use Rattle.lrc_meaning.specs.Tree.{Tree}
 use Rattle.lrc_meaning.specs.Grammar.{Grammar}
 use Rattle.lrc_meaning.specs.Editing.{Change}
-use Rattle.lrc_meaning.specs.Naming.{called_occurrences}
+use Rattle.lrc_meaning.specs.Signature.{signature_of}
 use Rattle.lrc_order_meaning.specs.Ordered.{IsInducedCycle, IsExtendedCycle}
 use Rattle.lrc_reader.specs.Denotes.{Denotes}
 use Rattle.lrc_words.specs.declared.command.Command.{Command}
@@ -33,8 +34,10 @@ pub record IsNamed (g : Grammar) (production occurrence : ℕ) (cycle : Cycle) :
   pub at : Production
   pub is_there : slice_get g.prods production ≡ Some at
   pub production_name : cycle.production ≡ at.name
-  pub occurrence_name : slice_get (called_occurrences g.sorts at.left at.kids at.extras) occurrence
-      ≡ Some (record { owner = cycle.owner; called = cycle.occurrence })
+  pub found : Occurrence
+  pub is_found : slice_get (signature_of g.sorts at).occurrences occurrence ≡ Some found
+  pub owner : cycle.owner ≡ found.owner
+  pub occurrence_name : cycle.occurrence ≡ found.name
 
 -- an extended cycle, or an induced one, by the production's and the occurrence's numbers
 abbrev pub IsCycleAt : Bool → Grammar → ℕ → ℕ → Type 0
@@ -52,7 +55,7 @@ pub record IsCycle (g : Grammar) (cycle : Cycle) : Type 0 where
 pub record IsPlaced (g : Grammar) (production occurrence : ℕ) : Type 0 where
   pub at : Production
   pub is_there : slice_get g.prods production ≡ Some at
-  pub within : occurrence < length (called_occurrences g.sorts at.left at.kids at.extras)
+  pub within : occurrence < length (signature_of g.sorts at).occurrences
 
 -- the grammar is not ordered, or memory ran out
 pub data IsUnordered (g : Grammar) : Failure → Type 0 where

@@ -6,64 +6,39 @@ ghost use Rattle.lrc_cli.specs.Causes.{IsPlaced, IsNamed, IsCycleAt, IsUnordered
 ghost use Rattle.lrc_cli.specs.Headline.{HasPartitions, IsPartsOf, IsPlanOf};
 
 use crate::job::accepted_job;
-use lrc_base::{Bytes, Memory};
+use lrc_base::Bytes;
 use lrc_failures::{Cycle, Failure};
 use lrc_grammar::Grammar;
-use lrc_naming::called_occurrences;
 use lrc_ordered::{OrderFault, ordered};
 use lrc_plan::{Plan, parts_text, plan, plan_text};
 use lrc_words::Command;
 use std::alloc::Global;
 
 /// The cycle at an occurrence of a production, by their names.
-///
-/// # Errors
-///
-/// Want of memory.
-fn cycle_at(
-    alloc: Global,
-    grammar: &Grammar,
-    is_extended: bool,
-    production: u32,
-    occurrence: u32,
-) -> Result<Cycle, Memory>
+fn cycle_at(grammar: &Grammar, is_extended: bool, production: u32, occurrence: u32) -> Cycle
     requires { IsPlaced (grammar_of grammar.now) production occurrence }
-    ensures named { IfOk result (IsNamed (grammar_of grammar.now) production occurrence) }
-    ensures kind { IfOk result (λ cycle. cycle.is_extended ≡ is_extended) }
+    ensures named { IsNamed (grammar_of grammar.now) production occurrence result }
+    ensures kind { result.is_extended ≡ is_extended }
 {
-    let sorts = grammar.sorts.as_slice();
-    let at = &grammar.prods.as_slice()[production as usize];
-    let kids = at.kids.as_slice();
-    let extras = at.extras.as_slice();
-    let names = called_occurrences(alloc, sorts, at.left, kids, extras)?;
-    let name = &names.as_slice()[occurrence as usize];
-    Ok(Cycle {
+    let found = &grammar.signature(production).occurrences.as_slice()[occurrence as usize];
+    Cycle {
         is_extended,
-        production: at.name,
-        owner: name.owner(),
-        occurrence: name.attribute(),
-    })
-}
-
-/// That the grammar is not ordered, with the cycle at an occurrence of a production; or want of memory.
-fn not_ordered(
-    alloc: Global,
-    grammar: &Grammar,
-    is_extended: bool,
-    production: u32,
-    occurrence: u32,
-) -> Failure
-    requires { IsCycleAt is_extended (grammar_of grammar.now) production occurrence }
-    ensures { IsUnordered (grammar_of grammar.now) result }
-{
-    match cycle_at(alloc, grammar, is_extended, production, occurrence) {
-        Ok(cycle) => Failure::NotOrdered(cycle),
-        Err(_) => Failure::Memory,
+        production: grammar.prods.as_slice()[production as usize].name,
+        owner: found.owner,
+        occurrence: found.name,
     }
 }
 
+/// That the grammar is not ordered, with the cycle at an occurrence of a production.
+fn not_ordered(grammar: &Grammar, is_extended: bool, production: u32, occurrence: u32) -> Failure
+    requires { IsCycleAt is_extended (grammar_of grammar.now) production occurrence }
+    ensures { IsUnordered (grammar_of grammar.now) result }
+{
+    Failure::NotOrdered(cycle_at(grammar, is_extended, production, occurrence))
+}
+
 /// What a fault of the ordered test is to the program.
-fn failure_of(alloc: Global, grammar: &Grammar, fault: OrderFault) -> Failure
+fn failure_of(grammar: &Grammar, fault: OrderFault) -> Failure
     requires { IsOrderFault (grammar_of grammar.now) [] fault }
     ensures { IsUnordered (grammar_of grammar.now) result }
 {
@@ -71,11 +46,11 @@ fn failure_of(alloc: Global, grammar: &Grammar, fault: OrderFault) -> Failure
         OrderFault::Induced {
             production,
             occurrence,
-        } => not_ordered(alloc, grammar, false, production, occurrence),
+        } => not_ordered(grammar, false, production, occurrence),
         OrderFault::Extended {
             production,
             occurrence,
-        } => not_ordered(alloc, grammar, true, production, occurrence),
+        } => not_ordered(grammar, true, production, occurrence),
         OrderFault::Memory => Failure::Memory,
     }
 }
@@ -94,7 +69,7 @@ fn planned(alloc: Global, command: &Command, bytes: &[u8]) -> Result<Plan, Failu
     let grammar = accepted.grammar.copy(alloc)?;
     match ordered(alloc, &accepted.grammar) {
         Ok(parts) => Ok(plan(alloc, grammar, parts)?),
-        Err(fault) => Err(failure_of(alloc, &accepted.grammar, fault)),
+        Err(fault) => Err(failure_of(&accepted.grammar, fault)),
     }
 }
 

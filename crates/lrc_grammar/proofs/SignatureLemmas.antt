@@ -16,7 +16,8 @@ use Rattle.lrc_base.specs.declared.signature.Origin.TheVariants as origin
 use Rattle.lrc_meaning.specs.Grammar.{Grammar, attrs_of_sort, attrs_of}
 use Rattle.lrc_meaning.specs.Signature.{left_attribute, symbol_attribute, kid_attributes, extra_attributes, signed_occurrences, signed_symbol, signed_kids, signed_extras, equation_of}
 use Rattle.lrc_meaning.proofs.SignatureLemmas.{signed_few}
-use Rattle.lrc_grammar.specs.Limits.{has_few_attributes, has_few_parts, keeps_limits}
+use Rattle.lrc_base.specs.declared.limits.TheConstants.{ATTRIBUTE_LIMIT, CHILD_LIMIT, LOCAL_LIMIT}
+use Rattle.lrc_meaning.specs.Limits.{IsFew}
 use Rattle.lrc_grammar.proofs.FittingLemmas.{next_left}
 
 pub next_signed_kids : (sorts : List Sort) (at n : ℕ) (kids : List Kid) (i : ℕ) (kid : Kid) → i < length kids → kid ≡ get_or kids i kid
@@ -118,46 +119,31 @@ one_more n = map-range_with_len_more {X = Option ℕ} (λ o. None) 0 n n (omega 
 
 pub ruleset equation_steps = (near_equation, far_equation, no_equation_left, length-map-range_with_len, one_more)
 
-few_attributes : (sorts : List Sort) → list_all has_few_attributes sorts ≡ true → All (λ (s : Sort). length s.attrs ≤ 16) sorts
-few_attributes [] h i d l = absurd (omega arith)
-few_attributes (s ∷ sorts) h zero d l = leb-true (length s.attrs) 16 (and_parts (has_few_attributes s) (list_all has_few_attributes sorts) h).0
-few_attributes (s ∷ sorts) h (suc i) d l = few_attributes sorts (and_parts (has_few_attributes s) (list_all has_few_attributes sorts) h).1 i d (omega arith)
-
 -- few enough to be numbered
-pub record IsFew (sorts : List Sort) (p : Production) : Type 0 where
+pub record CanBeNumbered (sorts : List Sort) (p : Production) : Type 0 where
   pub occurrences : length (signed_occurrences sorts p.left p.kids p.extras) < 2 ^ 32
   pub kids : length p.kids < 2 ^ 32
 
-few_production : (sorts : List Sort) (p : Production) → All (λ (s : Sort). length s.attrs ≤ 16) sorts → has_few_parts p ≡ true → IsFew sorts p
-few_production sorts p few h =
-    let parts = and_parts (nat_le (length p.kids) 8) (nat_le (length p.extras) 16) h in
-    let kids = leb-true (length p.kids) 8 parts.0 in
-    let extras = leb-true (length p.extras) 16 parts.1 in
+-- of sorts with few attributes, a production with few children, locals and nonterminal attributes is
+few_production : (sorts : List Sort) (p : Production) → All (λ (s : Sort). length s.attrs ≤ ATTRIBUTE_LIMIT) sorts → IsFew p → CanBeNumbered sorts p
+few_production sorts p few parts =
+    let kids : length p.kids ≤ CHILD_LIMIT = parts.kids in
+    let extras : length p.extras ≤ LOCAL_LIMIT = parts.extras in
     let all = signed_few sorts few p.left p.kids p.extras in
     record { occurrences = omega arith; kids = omega arith }
 
-few_productions : (sorts : List Sort) (prods : List Production) → All (λ (s : Sort). length s.attrs ≤ 16) sorts → list_all has_few_parts prods ≡ true → All (IsFew sorts) prods
-few_productions sorts [] few h i d l = absurd (omega arith)
-few_productions sorts (p ∷ prods) few h zero d l = few_production sorts p few (and_parts (has_few_parts p) (list_all has_few_parts prods) h).0
-few_productions sorts (p ∷ prods) few h (suc i) d l = few_productions sorts prods few (and_parts (has_few_parts p) (list_all has_few_parts prods) h).1 i d (omega arith)
+few_there : (sorts : List Sort) (prods : List Production) (i : ℕ) (p : Production) → All (λ (s : Sort). length s.attrs ≤ ATTRIBUTE_LIMIT) sorts → All IsFew prods
+    → i < length prods → p ≡ get_or prods i p → CanBeNumbered sorts p
+few_there sorts prods i p few parts h e =
+    subst (CanBeNumbered sorts) (sym e) (few_production sorts (get_or prods i p) few (parts i p h))
 
--- each production of a grammar within the limits
-pub few_signed : (g : Grammar) → IsTrue (keeps_limits g) → All (IsFew g.sorts) g.prods
-few_signed g kept =
-    let both = and_parts _ _ kept in few_productions g.sorts g.prods (few_attributes g.sorts (and_parts _ _ both.0).1) (and_parts _ _ both.1).1
-
-few_there : (sorts : List Sort) (prods : List Production) (i : ℕ) (p : Production) → IsTrue (keeps_limits (record { sorts = sorts; prods = prods; start = 0 }))
-    → i < length prods → p ≡ get_or prods i p → IsFew sorts p
-few_there sorts prods i p kept h e =
-    subst (IsFew sorts) (sym e) (few_signed (record { sorts = sorts; prods = prods; start = 0 }) kept i p h)
-
-pub few_occurrences : (sorts : List Sort) (prods : List Production) (i : ℕ) (p : Production) → IsTrue (keeps_limits (record { sorts = sorts; prods = prods; start = 0 }))
+pub few_occurrences : (sorts : List Sort) (prods : List Production) (i : ℕ) (p : Production) → All (λ (s : Sort). length s.attrs ≤ ATTRIBUTE_LIMIT) sorts → All IsFew prods
     → i < length prods → p ≡ get_or prods i p → length (signed_occurrences sorts p.left p.kids p.extras) < 2 ^ 32
-few_occurrences sorts prods i p kept h e = (few_there sorts prods i p kept h e).occurrences
+few_occurrences sorts prods i p few parts h e = (few_there sorts prods i p few parts h e).occurrences
 
-pub few_kids : (sorts : List Sort) (prods : List Production) (i : ℕ) (p : Production) → IsTrue (keeps_limits (record { sorts = sorts; prods = prods; start = 0 }))
+pub few_kids : (sorts : List Sort) (prods : List Production) (i : ℕ) (p : Production) → All (λ (s : Sort). length s.attrs ≤ ATTRIBUTE_LIMIT) sorts → All IsFew prods
     → i < length prods → p ≡ get_or prods i p → length p.kids < 2 ^ 32
-few_kids sorts prods i p kept h e = (few_there sorts prods i p kept h e).kids
+few_kids sorts prods i p few parts h e = (few_there sorts prods i p few parts h e).kids
 
 pub ruleset few_at = (few_occurrences, few_kids)
 

@@ -1,7 +1,8 @@
-ghost use Rattle.std.specs.Prelude.{◌≡◌, ◌+◌, ◌<◌, ◌^◌, ◌++◌, [], length, map, flat_map, cond, Option, None, IfOk, OnOk};
-ghost use Rattle.std.specs.Prelude.{IsTrue};
+ghost use Rattle.std.specs.Prelude.{◌≡◌, ◌+◌, ◌<◌, ◌≤◌, ◌^◌, ◌++◌, [], length, map, flat_map, cond, Option, None, IfOk, OnOk, All};
 ghost use Rattle.std.specs.List.{range_with_len};
-ghost use Rattle.lrc_grammar.specs.Limits.{keeps_limits};
+ghost use Rattle.lrc_base.specs.declared.limits.TheConstants.{ATTRIBUTE_LIMIT};
+ghost use Rattle.lrc_base.specs.declared.grammar.Sort as base-sort;
+ghost use Rattle.lrc_meaning.specs.Limits.{IsFew};
 ghost use Rattle.lrc_base.specs.declared.signature.Origin.TheVariants as origin;
 ghost use Rattle.lrc_meaning.specs.Signature.{left_attribute, symbol_attribute, attribute, kid_attributes, extra_attributes, signed_occurrences, signed_symbol, signed_kids, signed_extras, equation_of, signature_of};
 
@@ -243,7 +244,8 @@ pub fn signatures_of(
     sorts: &[Sort],
     prods: &[Production],
 ) -> Result<List<Signature>, Memory>
-    requires { IsTrue (keeps_limits (record { sorts = sorts.now; prods = prods.now; start = 0 })) }
+    requires attributes { All (λ (s : base-sort.Sort). length s.attrs ≤ ATTRIBUTE_LIMIT) sorts.now }
+    requires parts { All IsFew prods.now }
     ensures { IfOk result (λ all. all ≡ map (signature_of sorts.now) prods.now) }
 {
     let mut all = List::new(alloc);

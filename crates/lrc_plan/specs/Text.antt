@@ -1,14 +1,15 @@
 -- The texts of a plan: the visits of each sort, and the segments and bindings of each production.
-use Rattle.std.specs.Prelude.{ℕ, ◌+◌, Bool, true, false, cond, List, [], ◌∷◌, ◌++◌, map, flat_map, length, slice_get, slice_index_or, codes, decimal}
+use Rattle.std.specs.Prelude.{ℕ, ◌+◌, Bool, true, false, List, [], ◌∷◌, ◌++◌, map, flat_map, length, slice_get, slice_index_or, codes, decimal}
 use Rattle.std.specs.Option.{option_map_or}
 use Rattle.std.specs.List.{range_with_len}
 use Rattle.lrc_base.specs.declared.grammar.Attr.{Attr}
-use Rattle.lrc_base.specs.declared.grammar.Kid.{Kid}
-use Rattle.lrc_base.specs.declared.grammar.Extra.{Extra}
 use Rattle.lrc_base.specs.declared.grammar.Sort.{Sort}
 use Rattle.lrc_base.specs.declared.grammar.Production.{Production}
-use Rattle.lrc_meaning.specs.Tree.{is_sort}
-use Rattle.lrc_meaning.specs.Grammar.{Grammar, attrs_of_sort, attrs_of}
+use Rattle.lrc_base.specs.declared.signature.Occurrence.{Occurrence}
+use Rattle.lrc_base.specs.declared.signature.Symbol.{Symbol}
+use Rattle.lrc_base.specs.declared.signature.Signature.{Signature}
+use Rattle.lrc_meaning.specs.Grammar.{Grammar, attrs_of_sort}
+use Rattle.lrc_meaning.specs.Signature.{signature_of}
 use Rattle.lrc_meaning.specs.Text.{line_feed}
 use Rattle.lrc_order_meaning.specs.declared.Partition.{Partition}
 use Rattle.lrc_plan_meaning.specs.declared.Action.{Action}
@@ -19,28 +20,17 @@ use Rattle.lrc_plan_meaning.specs.declared.Sequences.{Sequences}
 use Rattle.lrc_plan_meaning.specs.Items.{visits_of, attrs_of_visit}
 use Rattle.lrc_plan_meaning.specs.Plans.{sequences_of}
 
--- the attributes of a symbol print behind its name
-abbrev pub attribute_names : List ℕ → List Attr → List (List ℕ)
-attribute_names symbol attrs = map (λ (x : Attr). symbol ++ (codes "." ++ x.name)) attrs
-
-abbrev pub extra_names : List Sort → Extra → List (List ℕ)
-extra_names sorts x = x.name ∷ cond x.attached (attribute_names x.name (attrs_of sorts x.kind)) []
+-- how an occurrence prints: an attribute of a symbol behind the symbol's name
+abbrev pub occurrence_name : Occurrence → List ℕ
+occurrence_name o = option_map_or (λ symbol. symbol ++ (codes "." ++ o.name)) o.owner o.name
 
 -- How the occurrences of a production print, by number.
-abbrev pub occurrence_names : List Sort → Production → List (List ℕ)
-occurrence_names sorts p =
-    map (λ (x : Attr). x.name) (attrs_of_sort sorts p.left)
-    ++ (flat_map (λ (kid : Kid). attribute_names kid.name (attrs_of sorts kid.kind)) p.kids ++ flat_map (extra_names sorts) p.extras)
-
-abbrev pub kid_symbol_name : Kid → List (List ℕ)
-kid_symbol_name kid = cond (is_sort kid.kind) (kid.name ∷ []) []
-
-abbrev pub extra_symbol_name : Extra → List (List ℕ)
-extra_symbol_name x = cond x.attached (x.name ∷ []) []
+abbrev pub occurrence_names : Signature → List (List ℕ)
+occurrence_names signature = map occurrence_name signature.occurrences
 
 -- How its symbols print, by number.
-abbrev pub symbol_names : Production → List (List ℕ)
-symbol_names p = flat_map kid_symbol_name p.kids ++ flat_map extra_symbol_name p.extras
+abbrev pub symbol_names : Signature → List (List ℕ)
+symbol_names signature = map (λ (s : Symbol). s.name) signature.symbols
 
 -- names, by number
 abbrev pub name_at : List (List ℕ) → ℕ → List ℕ
@@ -93,13 +83,13 @@ module _ (occurrences symbols : List (List ℕ)) where
   sequences_lines found = segment_lines found.actions ++ binding_lines found.bindings
 
 -- `prod NAME`, the segments, and the bindings
-abbrev pub production_lines : List Sort → Production → Sequences → List ℕ
-production_lines sorts p found =
-    codes "prod " ++ (p.name ++ (line_feed ++ sequences_lines (occurrence_names sorts p) (symbol_names p) found))
+abbrev pub production_lines : Signature → Production → Sequences → List ℕ
+production_lines signature p found =
+    codes "prod " ++ (p.name ++ (line_feed ++ sequences_lines (occurrence_names signature) (symbol_names signature) found))
 
 -- The text of a plan.
 abbrev pub plan_text : Grammar → List Partition → List ℕ
-plan_text g parts = flat_map (λ p. production_lines g.sorts p (sequences_of g.sorts parts p)) g.prods
+plan_text g parts = flat_map (λ p. production_lines (signature_of g.sorts p) p (sequences_of g.sorts parts p)) g.prods
 
 -- the name of an attribute by its number
 abbrev pub attr_name : List Attr → ℕ → List ℕ

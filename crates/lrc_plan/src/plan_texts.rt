@@ -7,7 +7,7 @@ ghost use Rattle.lrc_plan.specs.Text.{name_at, action_text, bound_text, more_act
 use crate::names::{Names, names_of};
 use crate::sequenced::Plan;
 use itoa::Buffer;
-use lrc_base::{Bytes, List, Memory, Production, Sort};
+use lrc_base::{Bytes, List, Memory, Production, Signature};
 use lrc_plan_meaning::{Action, Bound, Sequences};
 use sqlite_items::at;
 use std::alloc::Global;
@@ -211,13 +211,13 @@ fn push_sequences(text: &mut Vec<u8>, names: &Names, found: &Sequences) -> Resul
 fn push_production(
     alloc: Global,
     text: &mut Vec<u8>,
-    sorts: &[Sort],
+    signature: &Signature,
     production: &Production,
     found: &Sequences,
 ) -> Result<(), Memory>
-    ensures { OnOk result (text.new.items ≡ text.old.items ++ production_lines sorts.now production.now found.now) }
+    ensures { OnOk result (text.new.items ≡ text.old.items ++ production_lines signature.now production.now found.now) }
 {
-    let names = names_of(alloc, sorts, production)?;
+    let names = names_of(alloc, signature)?;
     text.extend_from_slice(b"prod ")?;
     text.extend_from_slice(production.name.bytes())?;
     text.extend_from_slice(b"\n")?;
@@ -233,12 +233,13 @@ fn push_production(
 pub fn plan_text(alloc: Global, plan: &Plan) -> Result<Bytes, Memory>
     ensures { IfOk result (λ text. text ≡ plan_text (grammar_of plan.now.grammar) plan.now.parts.sorts) }
 {
-    let sorts = plan.grammar().sorts.as_slice();
     let mut text = Vec::new(alloc);
+    let signatures = plan.grammar().signatures.as_slice();
     let productions = plan.grammar().prods.as_slice();
     let all = plan.productions.as_slice();
     'productions: for number in 0..productions.len() {
-        push_production(alloc, &mut text, sorts, &productions[number], &all[number])?;
+        let (signature, production) = (&signatures[number], &productions[number]);
+        push_production(alloc, &mut text, signature, production, &all[number])?;
     }
     Ok(List::from_vec(text))
 }

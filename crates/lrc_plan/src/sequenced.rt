@@ -96,8 +96,9 @@ fn all_sequences(
     ensures { IfOk result (λ all. all ≡ map (sequences_of grammar.now.sorts parts.now) grammar.now.prods) }
 {
     let mut all = List::new(alloc);
-    'productions: for production in grammar.prods.as_slice() {
-        all.push(sequences(alloc, grammar, parts, production)?)?;
+    let signatures = grammar.signatures.as_slice();
+    'productions: for (number, production) in grammar.prods.as_slice().iter().enumerate() {
+        all.push(sequences(alloc, grammar, parts, production, &signatures[number])?)?;
     }
     Ok(all)
 }

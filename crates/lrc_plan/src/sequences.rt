@@ -1,5 +1,6 @@
 ghost use Rattle.std.specs.Prelude.{◌≡◌, ℕ, ◌+◌, ◌<◌, ◌≤◌, ◌^◌, All, Contains, drop, length, map, IfOk, OnOk};
 ghost use Rattle.lrc_meaning.specs.Grammar.{attrs_of_sort, occurrences_of};
+ghost use Rattle.lrc_meaning.specs.Signature.{signature_of};
 ghost use Rattle.lrc_order_meaning.specs.Needs.{places_of, symbols_of};
 ghost use Rattle.lrc_plan_meaning.specs.declared.Step as sequence;
 ghost use Rattle.lrc_plan_meaning.specs.Items.{visits_of};
@@ -12,7 +13,7 @@ use crate::gaining::{Shape, all_gained, all_used};
 use crate::parts::visits_of;
 use crate::segments::segments;
 use crate::waiting::waiting_actions;
-use lrc_base::{List, Memory, Production, Sort};
+use lrc_base::{List, Memory, Production, Signature, Sort};
 use lrc_grammar::{Grammar, occurrences_of};
 use lrc_order_meaning::{Partition, Place};
 use lrc_ordered::places_of;
@@ -108,7 +109,7 @@ fn all_bindings(
     bindings(alloc, items.as_slice(), &gained, &used)
 }
 
-/// The visit sequences and bindings of a production of the grammar.
+/// The visit sequences and bindings of a production of the grammar with this signature.
 ///
 /// # Errors
 ///
@@ -118,12 +119,14 @@ pub fn sequences(
     grammar: &Grammar,
     parts: &[Partition],
     production: &Production,
+    signature: &Signature,
 ) -> Result<Sequences, Memory>
-    requires { Contains grammar.now.prods production.now }
+    requires there { Contains grammar.now.prods production.now }
+    requires signature { signature.now ≡ signature_of grammar.now.sorts production.now }
     ensures { IfOk result (λ found. found ≡ sequences_of grammar.now.sorts parts.now production.now) }
 {
     let sorts = grammar.sorts.as_slice();
-    let places = places_of(alloc, sorts, production)?;
+    let places = places_of(alloc, production, signature)?;
     let symbols = behind_first(alloc, places.as_slice())?;
     let shape = shape(alloc, sorts, parts, production, symbols.as_slice())?;
     let waiting = waiting_actions(

@@ -1,7 +1,0 @@
-use Rattle.std.proofs.Common.{◌≡◌, ◌++◌, take}
-use Rattle.std.specs.Prelude.{flat_map}
-use Rattle.lrc_plan.specs.Text.{extra_symbol_name}
-use Rattle.lrc_plan.proofs.names.push_extra_symbols.Given as goal
-
-abbrev pub invariant-extras : goal.invariant-extras
-invariant-extras l = l.names ≡ l.initial.names ++ flat_map extra_symbol_name (take l.extra-index l.extras)
