@@ -11,5 +11,9 @@ still_known s t handle keeps known = stands-known t handle _ (keeps handle _ (kn
 -- the list is still known once the root was refused
 pub look-after-requires-clause-known : goal.look-after-requires-clause-known
 look-after-requires-clause-known g c =
-    let before = still_known _ (standing c.look-before.new.self.view) c.in-Ok.list.0 c.look-before.ensures.reads.stays.lasts.known c.in-Ok.ensures.known in
-    still_known _ (standing c.cell-root.new.self.view) c.in-Ok.list.0 c.cell-root.ensures.puts.adds.gains.lasts.known before
+    let list = c.in-Ok.list.0 in
+    let made = standing c.children.new.pass.view in
+    let looked = standing c.look-before.new.self.view in
+    let refused = standing c.cell-root.new.self.view in
+    let before = still_known made looked list c.look-before.ensures.reads.stays.lasts.known c.in-Ok.ensures.known in
+    still_known looked refused list c.cell-root.ensures.puts.adds.gains.lasts.known before
