@@ -24,13 +24,13 @@ use Rattle.lrc_functions.specs.declared.function.Operation.TheVariants as o
 use Rattle.lrc_functions.specs.declared.function.Function.{Function}
 use Rattle.lrc_functions.specs.Numbers.{number}
 
+-- the occurrences of the attributes that a visit of a sort takes, which are inherited, or gives, where they start at this one
+abbrev pub values_from : List Sort → List Partition → Bool → ℕ → ℕ → ℕ → List ℕ
+values_from sorts parts inherited s start v = map (λ x. start + x) (attrs_of_visit sorts parts inherited s v)
+
 module _ (sorts : List Sort) (parts : List Partition) (p : Production) where
   abbrev pub numbers : List Bound → List ℕ
   numbers items = map (number sorts parts p) items
-
-  -- the attributes that a visit of a sort takes, which are inherited, or gives, where they start at this occurrence
-  abbrev pub values_from : ℕ → Bool → ℕ → ℕ → List ℕ
-  values_from start inherited s v = map (λ x. start + x) (attrs_of_visit sorts parts inherited s v)
 
   -- where the tree of a symbol stands
   abbrev pub origin_of : ℕ → Origin
@@ -42,9 +42,9 @@ module _ (sorts : List Sort) (parts : List Partition) (p : Production) where
     visit = v;
     sort = place.sort;
     tree = origin_of s;
-    inherited = values_from place.start true place.sort v;
+    inherited = values_from sorts parts true place.sort place.start v;
     earlier = map (λ u. number sorts parts p (b.Kid s u v)) (range_with_len 1 (v - 1));
-    synthesised = values_from place.start false place.sort v;
+    synthesised = values_from sorts parts false place.sort place.start v;
     later = map (λ w. number sorts parts p (b.Kid s v w)) (range_with_len (v + 1) (visits_of parts place.sort - v));
   }
 
@@ -55,10 +55,10 @@ module _ (sorts : List Sort) (parts : List Partition) (p : Production) where
   -- The function of visit v of the left side.
   abbrev pub function_of : ℕ → Function
   function_of v = record {
-    inherited = values_from 0 true p.left v;
+    inherited = values_from sorts parts true p.left 0 v;
     earlier = map (λ u. numbers (binding sorts parts p u v)) (range_with_len 1 (v - 1));
     operations = map operation_of (segment sorts parts p v);
-    synthesised = values_from 0 false p.left v;
+    synthesised = values_from sorts parts false p.left 0 v;
     later = map (λ w. numbers (binding sorts parts p v w)) (range_with_len (v + 1) (visits_of parts p.left - v));
   }
 

@@ -7,10 +7,11 @@
 #![tactic(auto)]
 
 mod function;
-
+mod functions;
 mod laws;
 mod numbers;
+mod scene;
 
 pub use function::{Callee, Function, Operation};
-
+pub use functions::Functions;
 pub use laws::numbers_tell_items;

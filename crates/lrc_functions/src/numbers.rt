@@ -25,7 +25,7 @@ impl Model for Numbers {
 }
 
 /// The sum; want of memory where no list is as long.
-fn sum(left: u32, right: u32) -> Result<u32, Memory>
+pub(crate) fn sum(left: u32, right: u32) -> Result<u32, Memory>
     ensures { IfOk result (λ n. n ≡ left + right) }
 {
     left.checked_add(right).ok_or(AllocError)

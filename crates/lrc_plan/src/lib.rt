@@ -22,5 +22,6 @@ mod waiting;
 pub use lrc_plan_meaning::{Action, Bound, Sequences, Step};
 pub use parts_texts::parts_text;
 pub use plan_texts::plan_text;
+pub use parts::{Block, visits_of};
 pub use planning::plan;
 pub use sequenced::Plan;

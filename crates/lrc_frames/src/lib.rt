@@ -1,0 +1,10 @@
+//! Frames: the steps of a visit that runs, over handles of any store.
+//!
+//! A frame has a value for each item of a production. A body begins with what its call hands in; each
+//! evaluation and each visit of a symbol puts what it gives into the frame; and at the end the result
+//! is made of it. No step runs another visit, remembers anything, or takes memory.
+#![tactic(auto)]
+
+mod body;
+
+pub use body::Body;

@@ -1,0 +1,7 @@
+use Rattle.std.proofs.Common.{◌≡◌, map, take}
+use Rattle.lrc_order_meaning.specs.declared.Place.{Place}
+use Rattle.lrc_plan_meaning.specs.Items.{visits_of}
+use Rattle.lrc_functions.proofs.functions.symbol_visits.Given as goal
+
+abbrev pub invariant-symbols : goal.invariant-symbols
+invariant-symbols l = l.visits ≡ map (λ (place : Place). visits_of l.plan.parts.sorts place.sort) (take l.place-index l.symbols)
