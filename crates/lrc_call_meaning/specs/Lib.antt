@@ -1,3 +1,4 @@
 pub mod Spelled
 pub mod Forms
 pub mod Decoding
+pub mod Reached
