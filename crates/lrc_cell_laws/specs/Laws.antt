@@ -1,0 +1,36 @@
+-- Laws of what visits meet, and of its cells.
+use Rattle.std.specs.Prelude.{◌≡◌, ◌≢◌, ℕ, ◌<◌, ◌⊎◌, List, Some, Contains}
+use Rattle.lrc_meaning.specs.Grammar.{Grammar}
+use Rattle.lrc_order_meaning.specs.declared.Partition.{Partition}
+use Rattle.lrc_visit_meaning.specs.Values.{Call, Result}
+use Rattle.lrc_visit_meaning.specs.Visits.{plain_visit}
+use Rattle.lrc_visit_meaning.specs.Demand.{Met, called, answered, reach}
+use Rattle.lrc_store.specs.Cells.{nil, IsClosed}
+use Rattle.lrc_call_meaning.specs.Reached.{cells_of}
+
+-- the cells of what was met hold with each cell its parts, and leave out nil
+abbrev pub CellsAreClosed : Type 0
+CellsAreClosed = (ms : List Met) → IsClosed (cells_of ms) × ¬ Contains (cells_of ms) nil
+
+-- another call has a lower result than this one of a call, and all that it meets the call meets too
+pub record IsNested (g : Grammar) (parts : List Partition) (fuel : ℕ) (c : Call) (r : Result) (d : Call) : Type 0 where
+  pub other : d ≢ c
+  pub result : Result
+  pub is_result : plain_visit g parts fuel d ≡ Some result
+  pub lower : result.height < r.height
+  pub within : (x : Met) → Contains (reach g parts fuel d) x → Contains (reach g parts fuel c) x
+
+-- a call that is met in the visit of a call with a result is that call, or is nested in it
+abbrev pub NestedIsLower : Type 0
+NestedIsLower = (g : Grammar) (parts : List Partition) (fuel : ℕ) (c : Call) (r : Result) → plain_visit g parts fuel c ≡ Some r
+    → (d : Call) → Contains (reach g parts fuel c) (called d) → (d ≡ c) ⊎ IsNested g parts fuel c r d
+
+-- the result is that of a call that is met
+pub record IsOfCall (g : Grammar) (parts : List Partition) (fuel : ℕ) (c : Call) (r : Result) : Type 0 where
+  pub call : Call
+  pub is_met : Contains (reach g parts fuel c) (called call)
+  pub is_result : plain_visit g parts fuel call ≡ Some r
+
+-- each result that is met in a visit, whether that has a result or not, is that of a call that is met
+abbrev pub ResultsAreOfCalls : Type 0
+ResultsAreOfCalls = (g : Grammar) (parts : List Partition) (fuel : ℕ) (c : Call) (r : Result) → Contains (reach g parts fuel c) (answered r) → IsOfCall g parts fuel c r

@@ -1,0 +1,9 @@
+//! Laws of what visits meet, and of the cells of it: over definitions alone, with no store. Each
+//! function does nothing, and carries a law as its contract.
+#![tactic(auto)]
+
+mod cells;
+mod reached;
+
+pub use cells::reached_cells_are_closed;
+pub use reached::nested_visits_are_lower;
