@@ -1,3 +1,4 @@
 pub mod ClosedLemmas
 pub mod ReachedLemmas
 pub mod NestedLemmas
+pub mod CallCellLemmas

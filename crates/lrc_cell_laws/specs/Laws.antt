@@ -1,12 +1,13 @@
 -- Laws of what visits meet, and of its cells.
-use Rattle.std.specs.Prelude.{◌≡◌, ◌≢◌, ℕ, ◌<◌, ◌⊎◌, List, Some, Contains}
+use Rattle.std.specs.Prelude.{◌≡◌, ◌≢◌, ℕ, ◌<◌, ◌≤◌, ◌⊎◌, ◌↔◌, List, Some, Contains}
 use Rattle.lrc_meaning.specs.Grammar.{Grammar}
 use Rattle.lrc_order_meaning.specs.declared.Partition.{Partition}
 use Rattle.lrc_visit_meaning.specs.Values.{Call, Result}
 use Rattle.lrc_visit_meaning.specs.Visits.{plain_visit}
 use Rattle.lrc_visit_meaning.specs.Demand.{Met, called, answered, reach}
-use Rattle.lrc_store.specs.Cells.{nil, IsClosed}
-use Rattle.lrc_call_meaning.specs.Reached.{cells_of}
+use Rattle.lrc_store.specs.Cells.{CellTree, nil, IsClosed}
+use Rattle.lrc_call_meaning.specs.Forms.{call_form}
+use Rattle.lrc_call_meaning.specs.Reached.{cells_of, calls_in}
 
 -- the cells of what was met hold with each cell its parts, and leave out nil
 abbrev pub CellsAreClosed : Type 0
@@ -34,3 +35,15 @@ pub record IsOfCall (g : Grammar) (parts : List Partition) (fuel : ℕ) (c : Cal
 -- each result that is met in a visit, whether that has a result or not, is that of a call that is met
 abbrev pub ResultsAreOfCalls : Type 0
 ResultsAreOfCalls = (g : Grammar) (parts : List Partition) (fuel : ℕ) (c : Call) (r : Result) → Contains (reach g parts fuel c) (answered r) → IsOfCall g parts fuel c r
+
+-- the number of each call's visit that is met fits a tag
+abbrev pub HaveTags : List Met → Type 0
+HaveTags ms = (c : Call) → Contains ms (called c) → (1 ≤ c.visit) × (c.visit ≤ 223)
+
+-- this is the cell of a call that is met
+abbrev pub IsCallMet : List Met → CellTree → Type 0
+IsCallMet ms cell = (c : Call) × Contains ms (called c) × (cell ≡ call_form c)
+
+-- so the cells of calls among those of what was met are just those of the calls that are met
+abbrev pub CallsAmongCells : Type 0
+CallsAmongCells = (ms : List Met) → HaveTags ms → (cell : CellTree) → Contains (calls_in (cells_of ms)) cell ↔ IsCallMet ms cell
