@@ -2,3 +2,4 @@ pub mod ClosedLemmas
 pub mod ReachedLemmas
 pub mod NestedLemmas
 pub mod CallCellLemmas
+pub mod TagLemmas

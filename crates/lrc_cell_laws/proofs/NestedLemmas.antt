@@ -38,10 +38,10 @@ same_answered q r e = ap (result_in q) e
 
 module _ (g : Grammar) (parts : List Partition) where
   -- nothing is asked of what is held
-  abbrev Any : Held → Type 0
+  abbrev pub Any : Held → Type 0
   Any m = Unit {0}
 
-  any_reached : (fuel : ℕ) (c : Call) (x : Met) → Contains (reach g parts (suc fuel) c) x → Reached g parts Any fuel c x
+  pub any_reached : (fuel : ℕ) (c : Call) (x : Met) → Contains (reach g parts (suc fuel) c) x → Reached g parts Any fuel c x
   any_reached fuel c x h = reached g parts Any fuel c x (λ n kids q e f. record { start = tt; keeps = λ m y r k l. tt }) h
 
   -- x is met in the visit of a call that is made in the visit of c

@@ -1,7 +1,9 @@
 -- Laws of what visits meet, and of its cells.
 use Rattle.std.specs.Prelude.{◌≡◌, ◌≢◌, ℕ, ◌<◌, ◌≤◌, ◌⊎◌, ◌↔◌, List, Some, Contains}
 use Rattle.lrc_meaning.specs.Grammar.{Grammar}
+use Rattle.lrc_meaning.specs.Limits.{IsWithinLimits}
 use Rattle.lrc_order_meaning.specs.declared.Partition.{Partition}
+use Rattle.lrc_order_meaning.specs.Ordered.{Partitions, HasOrder}
 use Rattle.lrc_visit_meaning.specs.Values.{Call, Result}
 use Rattle.lrc_visit_meaning.specs.Visits.{plain_visit}
 use Rattle.lrc_visit_meaning.specs.Demand.{Met, called, answered, reach}
@@ -36,9 +38,13 @@ pub record IsOfCall (g : Grammar) (parts : List Partition) (fuel : ℕ) (c : Cal
 abbrev pub ResultsAreOfCalls : Type 0
 ResultsAreOfCalls = (g : Grammar) (parts : List Partition) (fuel : ℕ) (c : Call) (r : Result) → Contains (reach g parts fuel c) (answered r) → IsOfCall g parts fuel c r
 
--- the number of each call's visit that is met fits a tag
+-- the number of the call's visit fits a tag
+abbrev pub HasTag : Call → Type 0
+HasTag c = (1 ≤ c.visit) × (c.visit ≤ 223)
+
+-- and so does that of each call that is met
 abbrev pub HaveTags : List Met → Type 0
-HaveTags ms = (c : Call) → Contains ms (called c) → (1 ≤ c.visit) × (c.visit ≤ 223)
+HaveTags ms = (c : Call) → Contains ms (called c) → HasTag c
 
 -- this is the cell of a call that is met
 abbrev pub IsCallMet : List Met → CellTree → Type 0
@@ -47,3 +53,7 @@ IsCallMet ms cell = (c : Call) × Contains ms (called c) × (cell ≡ call_form 
 -- so the cells of calls among those of what was met are just those of the calls that are met
 abbrev pub CallsAmongCells : Type 0
 CallsAmongCells = (ms : List Met) → HaveTags ms → (cell : CellTree) → Contains (calls_in (cells_of ms)) cell ↔ IsCallMet ms cell
+
+-- over an ordered grammar within the limits all calls that are met in a call with a tag have tags
+abbrev pub ReachHasTags : Type 0
+ReachHasTags = (g : Grammar) (found : Partitions) → HasOrder g found → IsWithinLimits g → (fuel : ℕ) (c : Call) → HasTag c → HaveTags (reach g found.sorts fuel c)

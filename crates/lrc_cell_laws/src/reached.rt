@@ -1,4 +1,4 @@
-ghost use Rattle.lrc_cell_laws.specs.Laws.{NestedIsLower, ResultsAreOfCalls};
+ghost use Rattle.lrc_cell_laws.specs.Laws.{NestedIsLower, ResultsAreOfCalls, ReachHasTags};
 
 /// In the visit of a call that has a result each other call that is met has a lower result, and
 /// meets nothing that the call does not meet. In any visit each result that is met is that of a call that
@@ -6,4 +6,10 @@ ghost use Rattle.lrc_cell_laws.specs.Laws.{NestedIsLower, ResultsAreOfCalls};
 pub fn nested_visits_are_lower()
     ensures calls { NestedIsLower }
     ensures results { ResultsAreOfCalls }
+{}
+
+/// Over an ordered grammar within the limits each call that is met in the visit of a call with a visit
+/// from 1 to 223 has a visit from 1 to 223, so that its number fits its tag.
+pub fn visits_have_tags()
+    ensures { ReachHasTags }
 {}
