@@ -3,3 +3,4 @@ pub mod ReachedLemmas
 pub mod NestedLemmas
 pub mod CallCellLemmas
 pub mod TagLemmas
+pub mod DemandCellLemmas

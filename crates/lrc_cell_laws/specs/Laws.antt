@@ -1,15 +1,17 @@
 -- Laws of what visits meet, and of its cells.
-use Rattle.std.specs.Prelude.{◌≡◌, ◌≢◌, ℕ, ◌<◌, ◌≤◌, ◌⊎◌, ◌↔◌, List, Some, Contains}
+use Rattle.std.specs.Prelude.{◌≡◌, ◌≢◌, ℕ, ◌<◌, ◌≤◌, ◌⊎◌, ◌↔◌, IsTrue, List, Some, Contains}
+use Rattle.lrc_base.specs.declared.grammar.Kind.TheVariants as k
+use Rattle.lrc_meaning.specs.Tree.{Tree, fits}
 use Rattle.lrc_meaning.specs.Grammar.{Grammar}
 use Rattle.lrc_meaning.specs.Limits.{IsWithinLimits}
 use Rattle.lrc_order_meaning.specs.declared.Partition.{Partition}
 use Rattle.lrc_order_meaning.specs.Ordered.{Partitions, HasOrder}
-use Rattle.lrc_visit_meaning.specs.Values.{Call, Result}
+use Rattle.lrc_visit_meaning.specs.Values.{Call, Result, root_call}
 use Rattle.lrc_visit_meaning.specs.Visits.{plain_visit}
 use Rattle.lrc_visit_meaning.specs.Demand.{Met, called, answered, reach}
 use Rattle.lrc_store.specs.Cells.{CellTree, nil, IsClosed}
 use Rattle.lrc_call_meaning.specs.Forms.{call_form}
-use Rattle.lrc_call_meaning.specs.Reached.{cells_of, calls_in}
+use Rattle.lrc_call_meaning.specs.Reached.{cells_of, calls_in, IsDemand}
 
 -- the cells of what was met hold with each cell its parts, and leave out nil
 abbrev pub CellsAreClosed : Type 0
@@ -57,3 +59,9 @@ CallsAmongCells = (ms : List Met) → HaveTags ms → (cell : CellTree) → Cont
 -- over an ordered grammar within the limits all calls that are met in a call with a tag have tags
 abbrev pub ReachHasTags : Type 0
 ReachHasTags = (g : Grammar) (found : Partitions) → HasOrder g found → IsWithinLimits g → (fuel : ℕ) (c : Call) → HasTag c → HaveTags (reach g found.sorts fuel c)
+
+-- over an ordered grammar the cells that the root's visit of a tree meets are the tree's demand, where the tree is of the
+-- start sort
+abbrev pub DemandIsCells : Type 0
+DemandIsCells = (g : Grammar) (found : Partitions) → HasOrder g found → (limit : ℕ) (t : Tree) → IsTrue (fits g.prods t (k.Sort g.start))
+    → IsDemand g found.sorts limit t (cells_of (reach g found.sorts limit (root_call t)))
