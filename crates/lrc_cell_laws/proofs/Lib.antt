@@ -4,3 +4,4 @@ pub mod NestedLemmas
 pub mod CallCellLemmas
 pub mod TagLemmas
 pub mod DemandCellLemmas
+pub mod SizeLemmas

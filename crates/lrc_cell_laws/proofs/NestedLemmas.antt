@@ -54,7 +54,7 @@ module _ (g : Grammar) (parts : List Partition) where
   action_through : (fuel : ℕ) (c : Call) (x : Met) (q : Production) (kids : Trees) (m : Held) (y : Action)
       → ((z : Met) → Contains (action_met g parts (reach g parts fuel) q kids m y) z → Contains (reach g parts (suc fuel) c) z)
       → ((r : Result) → plain_visit g parts (suc fuel) c ≡ Some r → (given : Given) × (step g parts (plain_visit g parts fuel) q kids m y ≡ Some given) × (given.height < r.height))
-      → ByAction g parts Any fuel q kids m x y → ((t : Tree) → built t ≢ x) → IsThrough fuel c x
+      → ByAction g parts fuel q kids m x y → ((t : Tree) → built t ≢ x) → IsThrough fuel c x
   action_through fuel c x q kids m _ within lower (made o t e is there same) no_tree = absurd (no_tree t same)
   action_through fuel c x q kids m _ within lower (visits s v kind member) no_tree = record {
     call = call_of g parts q kids m s v;
@@ -72,7 +72,7 @@ module _ (g : Grammar) (parts : List Partition) where
 
   through : (fuel : ℕ) (c : Call) (x : Met) → IsInner g parts Any fuel c x → ((t : Tree) → built t ≢ x) → IsThrough fuel c x
   through fuel c x i no_tree =
-      action_through fuel c x i.production i.kids i.held i.action i.within i.lower (by_action g parts Any fuel i.production i.kids i.held x i.action i.member) no_tree
+      action_through fuel c x i.production i.kids i.held i.action i.within i.lower (by_action g parts fuel i.production i.kids i.held x i.action i.member) no_tree
 
   -- what is nested at less fuel is so at more
   nested_up : (fuel : ℕ) (c : Call) (r : Result) (d : Call) (q : Result) → plain_visit g parts (suc fuel) c ≡ Some r → plain_visit g parts fuel d ≡ Some q → q.height < r.height
@@ -92,7 +92,7 @@ module _ (g : Grammar) (parts : List Partition) where
       }
 
   pub nested : (fuel : ℕ) (c : Call) (r : Result) → plain_visit g parts fuel c ≡ Some r → (d : Call) → Contains (reach g parts fuel c) (called d) → (d ≡ c) ⊎ IsNested g parts fuel c r d
-  nested zero c r e d h = inl (sym (same_called c d (reach_none g parts Any c (called d) h)))
+  nested zero c r e d h = inl (sym (same_called c d (reach_none g parts c (called d) h)))
   nested (suc fuel) c r e d h =
       elim (any_reached fuel c (called d) h) [
         | itself same ↦ inl (sym (same_called c d same))
@@ -110,11 +110,11 @@ module _ (g : Grammar) (parts : List Partition) where
       ]
 
   pub of_call : (fuel : ℕ) (c : Call) (r : Result) → Contains (reach g parts fuel c) (answered r) → IsOfCall g parts fuel c r
-  of_call zero c r h = absurd (let e = reach_none g parts Any c (answered r) h in cc)
+  of_call zero c r h = absurd (let e = reach_none g parts c (answered r) h in cc)
   of_call (suc fuel) c r h =
       elim (any_reached fuel c (answered r) h) [
         | itself same ↦ cc
-        | own q e same ↦ record { call = c; is_met = call_met g parts Any fuel c; is_result = e ∙ ap Some (same_answered q r same) }
+        | own q e same ↦ record { call = c; is_met = call_met g parts fuel c; is_result = e ∙ ap Some (same_answered q r same) }
         | inner i ↦
             let via = through fuel c (answered r) i (λ t same. cc) in
             let of = of_call fuel via.call r via.member in

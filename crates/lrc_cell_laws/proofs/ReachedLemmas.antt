@@ -82,6 +82,47 @@ module _ (makes_of : Action → List Bound) (one : Held → Action → Option Gi
             (λ r is d. met_by keeps xs (walked_on makes_of y w r) x (keeps w.held y r h is) d)
       ]
 
+module _ (g : Grammar) (parts : List Partition) where
+  abbrev own_result : ℕ → Call → List Met
+  own_result fuel c = option_map_or (λ r. answered r ∷ []) (plain_visit g parts (suc fuel) c) []
+
+  -- what the actions meet is in the reach
+  reach_tree : (fuel : ℕ) (c : Call) (x : Met) → Contains (tree_met g parts (plain_visit g parts fuel) (reach g parts fuel) c.tree c) x → Contains (reach g parts (suc fuel) c) x
+  unfolding reach
+  reach_tree fuel c x h =
+      let inner = tree_met g parts (plain_visit g parts fuel) (reach g parts fuel) c.tree c in
+      member_later (called c) (inner ++ own_result fuel c) x (Contains-append_left inner (own_result fuel c) x h)
+
+  -- the call itself is met
+  pub call_met : (fuel : ℕ) (c : Call) → Contains (reach g parts (suc fuel) c) (called c)
+  unfolding reach
+  call_met fuel c = member_first (called c) (tree_met g parts (plain_visit g parts fuel) (reach g parts fuel) c.tree c ++ own_result fuel c)
+
+  -- with no fuel only the call is met
+  pub reach_none : (c : Call) (x : Met) → Contains (reach g parts 0 c) x → called c ≡ x
+  unfolding reach
+  reach_none c x h = elim (member_cases (called c) [] x h) [ inl e ↦ e | inr later ↦ absurd (no_member x later) ]
+
+  -- an action makes trees, or visits a call
+  pub data ByAction (fuel : ℕ) (q : Production) (kids : Trees) (m : Held) (x : Met) : Action → Type 0 where
+    made : (o : ℕ) (t : Tree) (e : Equation) → equation_of q o ≡ Some e → Contains (built_in (values_in g q m) (leaf_in q.kids kids) (expression e.expr)) t → built t ≡ x
+        → ByAction fuel q kids m x (a.Eval o)
+    visits : (s v : ℕ) → is_of_kind g.prods (tree_at g q kids m s) (k.Sort (symbol_at g.sorts q s).sort) ≡ true → Contains (reach g parts fuel (call_of g parts q kids m s v)) x
+        → ByAction fuel q kids m x (a.Visit s v)
+
+  eval_made : (fuel : ℕ) (q : Production) (kids : Trees) (m : Held) (x : Met) (o : ℕ) (found : Option Equation) → equation_of q o ≡ found
+      → Contains (option_map_or (equation_met g (values_in g q m) (leaf_in q.kids kids)) found []) x → ByAction fuel q kids m x (a.Eval o)
+  eval_made fuel q kids m x o None is h = absurd (no_member x h)
+  eval_made fuel q kids m x o (Some e) is h =
+      let r = member_of_map built (built_in (values_in g q m) (leaf_in q.kids kids) (expression e.expr)) x h in
+      made o r.0 e is r.1 r.2
+
+  pub by_action : (fuel : ℕ) (q : Production) (kids : Trees) (m : Held) (x : Met) (y : Action) → Contains (action_met g parts (reach g parts fuel) q kids m y) x → ByAction fuel q kids m x y
+  by_action fuel q kids m x (a.Eval o) h = eval_made fuel q kids m x o (equation_of q o) refl h
+  by_action fuel q kids m x (a.Visit s v) h =
+      let inside = member_where (is_of_kind g.prods (tree_at g q kids m s) (k.Sort (symbol_at g.sorts q s).sort)) (reach g parts fuel (call_of g parts q kids m s v)) x h in
+      visits s v inside.0 inside.1
+
 module _ (g : Grammar) (parts : List Partition) (Fine : Held → Type 0) where
   -- what is held is fine at the start of a visit of this node, and each action of it keeps it so
   pub record IsKept (fuel : ℕ) (c : Call) (q : Production) (kids : Trees) : Type 0 where
@@ -104,16 +145,6 @@ module _ (g : Grammar) (parts : List Partition) (Fine : Held → Type 0) where
     pub within : (y : Met) → Contains (action_met g parts (reach g parts fuel) production kids held action) y → Contains (reach g parts (suc fuel) c) y
     pub lower : (r : Result) → plain_visit g parts (suc fuel) c ≡ Some r
         → (given : Given) × (step g parts (plain_visit g parts fuel) production kids held action ≡ Some given) × (given.height < r.height)
-
-  abbrev own_result : ℕ → Call → List Met
-  own_result fuel c = option_map_or (λ r. answered r ∷ []) (plain_visit g parts (suc fuel) c) []
-
-  -- what the actions meet is in the reach
-  reach_tree : (fuel : ℕ) (c : Call) (x : Met) → Contains (tree_met g parts (plain_visit g parts fuel) (reach g parts fuel) c.tree c) x → Contains (reach g parts (suc fuel) c) x
-  unfolding reach
-  reach_tree fuel c x h =
-      let inner = tree_met g parts (plain_visit g parts fuel) (reach g parts fuel) c.tree c in
-      member_later (called c) (inner ++ own_result fuel c) x (Contains-append_left inner (own_result fuel c) x h)
 
   node_inner : (fuel : ℕ) (c : Call) (n : ℕ) (kids : Trees) (q : Production) (x : Met) → c.tree ≡ node n kids → slice_get g.prods n ≡ Some q → IsKept fuel c q kids
       → Contains (node_met g parts (plain_visit g parts fuel) (reach g parts fuel) q kids c) x → IsInner fuel c x
@@ -141,7 +172,7 @@ module _ (g : Grammar) (parts : List Partition) (Fine : Held → Type 0) where
         action = by.action;
         in_segment = by.there;
         member = by.member;
-        within = λ y d. reach_tree fuel c y (subst (λ ms. Contains ms y) (sym whole) (by.within y d));
+        within = λ y d. reach_tree g parts fuel c y (subst (λ ms. Contains ms y) (sym whole) (by.within y d));
         lower = λ r e.
             let at_node : visit_of_node g parts (plain_visit g parts fuel) q kids c ≡ Some r =
             sym (ap (λ t. visit_of_tree g parts (plain_visit g parts fuel) t c) tree ∙ ap (option_and_then (λ q. visit_of_node g parts (plain_visit g parts fuel) q kids c)) there) ∙ e in
@@ -183,41 +214,11 @@ module _ (g : Grammar) (parts : List Partition) (Fine : Held → Type 0) where
   unfolding reach
   reached fuel c x kept h =
       let walked = tree_met g parts (plain_visit g parts fuel) (reach g parts fuel) c.tree c in
-      elim (member_cases (called c) (walked ++ own_result fuel c) x h) [
+      elim (member_cases (called c) (walked ++ own_result g parts fuel c) x h) [
         | inl e ↦ itself e
         | inr later ↦
-            elim (Contains-append_cases walked (own_result fuel c) x later) [
+            elim (Contains-append_cases walked (own_result g parts fuel c) x later) [
               | inl there ↦ inner (tree_inner fuel c c.tree x refl kept there)
               | inr last ↦ own_reached fuel c (plain_visit g parts (suc fuel) c) x refl last
             ]
       ]
-
-  -- the call itself is met
-  pub call_met : (fuel : ℕ) (c : Call) → Contains (reach g parts (suc fuel) c) (called c)
-  unfolding reach
-  call_met fuel c = member_first (called c) (tree_met g parts (plain_visit g parts fuel) (reach g parts fuel) c.tree c ++ own_result fuel c)
-
-  -- with no fuel only the call is met
-  pub reach_none : (c : Call) (x : Met) → Contains (reach g parts 0 c) x → called c ≡ x
-  unfolding reach
-  reach_none c x h = elim (member_cases (called c) [] x h) [ inl e ↦ e | inr later ↦ absurd (no_member x later) ]
-
-  -- an action makes trees, or visits a call
-  pub data ByAction (fuel : ℕ) (q : Production) (kids : Trees) (m : Held) (x : Met) : Action → Type 0 where
-    made : (o : ℕ) (t : Tree) (e : Equation) → equation_of q o ≡ Some e → Contains (built_in (values_in g q m) (leaf_in q.kids kids) (expression e.expr)) t → built t ≡ x
-        → ByAction fuel q kids m x (a.Eval o)
-    visits : (s v : ℕ) → is_of_kind g.prods (tree_at g q kids m s) (k.Sort (symbol_at g.sorts q s).sort) ≡ true → Contains (reach g parts fuel (call_of g parts q kids m s v)) x
-        → ByAction fuel q kids m x (a.Visit s v)
-
-  eval_made : (fuel : ℕ) (q : Production) (kids : Trees) (m : Held) (x : Met) (o : ℕ) (found : Option Equation) → equation_of q o ≡ found
-      → Contains (option_map_or (equation_met g (values_in g q m) (leaf_in q.kids kids)) found []) x → ByAction fuel q kids m x (a.Eval o)
-  eval_made fuel q kids m x o None is h = absurd (no_member x h)
-  eval_made fuel q kids m x o (Some e) is h =
-      let r = member_of_map built (built_in (values_in g q m) (leaf_in q.kids kids) (expression e.expr)) x h in
-      made o r.0 e is r.1 r.2
-
-  pub by_action : (fuel : ℕ) (q : Production) (kids : Trees) (m : Held) (x : Met) (y : Action) → Contains (action_met g parts (reach g parts fuel) q kids m y) x → ByAction fuel q kids m x y
-  by_action fuel q kids m x (a.Eval o) h = eval_made fuel q kids m x o (equation_of q o) refl h
-  by_action fuel q kids m x (a.Visit s v) h =
-      let inside = member_where (is_of_kind g.prods (tree_at g q kids m s) (k.Sort (symbol_at g.sorts q s).sort)) (reach g parts fuel (call_of g parts q kids m s v)) x h in
-      visits s v inside.0 inside.1

@@ -23,7 +23,7 @@ use Rattle.lrc_laws.proofs.FewLemmas.{few_visits}
 use Rattle.lrc_laws.proofs.SoundLemmas.{sound_plan}
 use Rattle.lrc_cell_laws.specs.Laws.{HasTag}
 use Rattle.lrc_cell_laws.proofs.ReachedLemmas.{itself, inner, own, ByAction, made, visits, by_action, reach_none}
-use Rattle.lrc_cell_laws.proofs.NestedLemmas.{Any, any_reached, same_called}
+use Rattle.lrc_cell_laws.proofs.NestedLemmas.{any_reached, same_called}
 
 -- what has the form of a call visits one of the left side's visits
 call_bounds : (g : Grammar) (parts : List Partition) (q : Production) (c : Call) → is_call g parts q c ≡ true → (1 ≤ c.visit) × (c.visit ≤ visits_of parts q.left)
@@ -60,7 +60,7 @@ module _ (g : Grammar) (found : Partitions) (order : HasOrder g found) (small : 
       subst (IsSound g.sorts parts) (get_or_from_slice_get g.prods n q q there) ((sound_plan g found order).sound n q less)
 
   action_tag : (fuel : ℕ) (c : Call) (q : Production) (kids : Trees) (m : Held) (y : Action) (d : Call) → IsSound g.sorts parts q → is_call g parts q c ≡ true
-      → Contains (segment g.sorts parts q c.visit) y → ByAction g parts (Any g parts) fuel q kids m (called d) y
+      → Contains (segment g.sorts parts q c.visit) y → ByAction g parts fuel q kids m (called d) y
       → ((e : Call) → HasTag e → Contains (reach g parts fuel e) (called d) → HasTag d) → HasTag d
   action_tag fuel c q kids m _ d sound is there (made o t e f k same) below = cc
   action_tag fuel c q kids m _ d sound is there (visits s v kind member) below =
@@ -72,12 +72,12 @@ module _ (g : Grammar) (found : Partitions) (order : HasOrder g found) (small : 
 
   pub reach_tags : (fuel : ℕ) (c : Call) → HasTag c → (d : Call) → Contains (reach g parts fuel c) (called d) → HasTag d
   reach_tags zero c h d member =
-      subst (λ (e : Call). HasTag e) (same_called c d (reach_none g parts (Any g parts) c (called d) member)) h
+      subst (λ (e : Call). HasTag e) (same_called c d (reach_none g parts c (called d) member)) h
   reach_tags (suc fuel) c h d member =
       elim (any_reached g parts fuel c (called d) member) [
         | itself same ↦ subst (λ (e : Call). HasTag e) (same_called c d same) h
         | own r e same ↦ cc
         | inner i ↦
             action_tag fuel c i.production i.kids i.held i.action d (sound_at i.number i.production i.is_there) (and_parts _ _ i.visited).0 i.in_segment
-            (by_action g parts (Any g parts) fuel i.production i.kids i.held (called d) i.action i.member) (λ e k there. reach_tags fuel e k d there)
+            (by_action g parts fuel i.production i.kids i.held (called d) i.action i.member) (λ e k there. reach_tags fuel e k d there)
       ]

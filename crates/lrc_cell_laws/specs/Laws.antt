@@ -9,9 +9,10 @@ use Rattle.lrc_order_meaning.specs.Ordered.{Partitions, HasOrder}
 use Rattle.lrc_visit_meaning.specs.Values.{Call, Result, root_call}
 use Rattle.lrc_visit_meaning.specs.Visits.{plain_visit}
 use Rattle.lrc_visit_meaning.specs.Demand.{Met, called, answered, reach}
-use Rattle.lrc_store.specs.Cells.{CellTree, nil, IsClosed}
+use Rattle.lrc_store.specs.Cells.{CellTree, nil, IsClosed, IsWithin}
+use Rattle.lrc_store.specs.Standing.{HasSize}
 use Rattle.lrc_call_meaning.specs.Forms.{call_form}
-use Rattle.lrc_call_meaning.specs.Reached.{cells_of, calls_in, IsDemand}
+use Rattle.lrc_call_meaning.specs.Reached.{cells_of, calls_in, HaveSame, IsDemand}
 
 -- the cells of what was met hold with each cell its parts, and leave out nil
 abbrev pub CellsAreClosed : Type 0
@@ -65,3 +66,15 @@ ReachHasTags = (g : Grammar) (found : Partitions) → HasOrder g found → IsWit
 abbrev pub DemandIsCells : Type 0
 DemandIsCells = (g : Grammar) (found : Partitions) → HasOrder g found → (limit : ℕ) (t : Tree) → IsTrue (fits g.prods t (k.Sort g.start))
     → IsDemand g found.sorts limit t (cells_of (reach g found.sorts limit (root_call t)))
+
+-- each list of cells has a size
+abbrev pub SizesExist : Type 0
+SizesExist = (cells : List CellTree) → (n : ℕ) × HasSize cells n
+
+-- lists with the same members have the same size
+abbrev pub SizesAgree : Type 0
+SizesAgree = (cells others : List CellTree) (n : ℕ) → HaveSame cells others → HasSize cells n → HasSize others n
+
+-- and a list whose members another has is of no greater size, so that each has one size only
+abbrev pub SizesGrow : Type 0
+SizesGrow = (cells others : List CellTree) (m n : ℕ) → IsWithin cells others → HasSize cells m → HasSize others n → m ≤ n
