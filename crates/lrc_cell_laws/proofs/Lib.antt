@@ -5,3 +5,4 @@ pub mod CallCellLemmas
 pub mod TagLemmas
 pub mod DemandCellLemmas
 pub mod SizeLemmas
+pub mod SpelledLemmas

@@ -11,6 +11,7 @@ use Rattle.lrc_visit_meaning.specs.Visits.{plain_visit}
 use Rattle.lrc_visit_meaning.specs.Demand.{Met, called, answered, reach}
 use Rattle.lrc_store.specs.Cells.{CellTree, nil, IsClosed, IsWithin}
 use Rattle.lrc_store.specs.Standing.{HasSize}
+use Rattle.lrc_call_meaning.specs.Spelled.{HasSpelledLiterals, IsSpelledCall, IsSpelledResult, IsSpelledMet}
 use Rattle.lrc_call_meaning.specs.Forms.{call_form}
 use Rattle.lrc_call_meaning.specs.Reached.{cells_of, calls_in, HaveSame, IsDemand}
 
@@ -78,3 +79,13 @@ SizesAgree = (cells others : List CellTree) (n : ℕ) → HaveSame cells others 
 -- and a list whose members another has is of no greater size, so that each has one size only
 abbrev pub SizesGrow : Type 0
 SizesGrow = (cells others : List CellTree) (m n : ℕ) → IsWithin cells others → HasSize cells m → HasSize others n → m ≤ n
+
+-- where a grammar's literals are spelled, all that a spelled call meets is spelled
+abbrev pub ReachIsSpelled : Type 0
+ReachIsSpelled = (g : Grammar) (parts : List Partition) → HasSpelledLiterals g → (fuel : ℕ) (c : Call) → IsSpelledCall c
+    → (x : Met) → Contains (reach g parts fuel c) x → IsSpelledMet x
+
+-- and so is its result
+abbrev pub ResultsAreSpelled : Type 0
+ResultsAreSpelled = (g : Grammar) (parts : List Partition) → HasSpelledLiterals g → (fuel : ℕ) (c : Call) (r : Result) → IsSpelledCall c
+    → plain_visit g parts fuel c ≡ Some r → IsSpelledResult r

@@ -7,5 +7,7 @@ mod reached;
 mod sizes;
 
 pub use cells::{calls_are_told_by_tags, reached_cells_are_closed};
-pub use reached::{demand_is_cells_of_reach, nested_visits_are_lower, visits_have_tags};
+pub use reached::{
+    demand_is_cells_of_reach, nested_visits_are_lower, visits_are_spelled, visits_have_tags,
+};
 pub use sizes::cells_have_one_size;

@@ -1,4 +1,4 @@
-ghost use Rattle.lrc_cell_laws.specs.Laws.{NestedIsLower, ResultsAreOfCalls, ReachHasTags, DemandIsCells};
+ghost use Rattle.lrc_cell_laws.specs.Laws.{NestedIsLower, ResultsAreOfCalls, ReachHasTags, DemandIsCells, ReachIsSpelled, ResultsAreSpelled};
 
 /// In the visit of a call that has a result each other call that is met has a lower result, and
 /// meets nothing that the call does not meet. In any visit each result that is met is that of a call that
@@ -19,4 +19,11 @@ pub fn visits_have_tags()
 /// attribution, where it has one that is no higher.
 pub fn demand_is_cells_of_reach()
     ensures { DemandIsCells }
+{}
+
+/// Where the literals of a grammar are spelled, all that the visit of a spelled call meets is spelled,
+/// calls, results and made trees alike, and so is its result.
+pub fn visits_are_spelled()
+    ensures reach { ReachIsSpelled }
+    ensures results { ResultsAreSpelled }
 {}
