@@ -2,3 +2,4 @@ pub mod Spelled
 pub mod Forms
 pub mod Decoding
 pub mod Reached
+pub mod Meaning

@@ -6,3 +6,4 @@ pub mod TagLemmas
 pub mod DemandCellLemmas
 pub mod SizeLemmas
 pub mod SpelledLemmas
+pub mod MeaningLemmas
