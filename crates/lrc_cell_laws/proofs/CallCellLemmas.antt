@@ -1,5 +1,5 @@
 -- The cells of calls among the cells of what was met: values, results and the lists of a call have none within.
-use Rattle.std.proofs.Common.{◌≡◌, ℕ, zero, suc, ◌+◌, ◌≤◌, ℤ, true, false, ◌&&◌, nat_lt, List, [], ◌∷◌, ◌++◌, map, drop, length, Contains, inl, inr, refl, sym, ap, ◌∙◌, subst, arith}
+use Rattle.std.proofs.Common.{◌≡◌, ℕ, zero, suc, ◌+◌, ◌≤◌, ℤ, true, false, nat_lt, List, [], ◌∷◌, ◌++◌, map, drop, length, Contains, inl, inr, refl, sym, ap, ◌∙◌, subst, arith}
 use Rattle.std.specs.Int.{div_ceil}
 use Rattle.std.specs.List.{AllByRecursion}
 use Rattle.std.proofs.lemmas.Bool.{true≢false, and_from, and_right, lt-ltb, le-ltb}

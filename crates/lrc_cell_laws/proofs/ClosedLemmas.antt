@@ -1,8 +1,8 @@
 -- The parts of a cell hold with each cell its parts, and leave out nil; and so do the cells of what was met.
-use Rattle.std.proofs.Common.{◌≡◌, List, [], ◌∷◌, ◌++◌, Contains, inl, inr, sym, subst}
+use Rattle.std.proofs.Common.{List, [], ◌++◌, Contains, inl, inr, sym, subst}
 use Rattle.std.proofs.lemmas.List.Elements.{Contains-append_left, Contains-append_right, Contains-append_cases}
 use Rattle.lrc_visit_meaning.specs.Demand.{Met}
-use Rattle.lrc_store.specs.Cells.{CellTree, nil, number, pair, parts, HoldsParts, IsClosed}
+use Rattle.lrc_store.specs.Cells.{CellTree, nil, number, pair, parts, IsClosed}
 use Rattle.lrc_order_meaning.proofs.MemberLemmas.{member_later, member_cases, no_member, member_flat, member_of_flat}
 use Rattle.lrc_call_meaning.specs.Reached.{met_cell, cells_of}
 

@@ -1,10 +1,10 @@
 -- The cells that the root's visit meets are those of the demand, where the tree has an attribution and where it has none.
-use Rattle.std.proofs.Common.{◌≡◌, ℕ, ◌≤◌, IsTrue, List, Contains, Option, Some, None, inl, inr, ◌↔◌, refl, sym, ◌∙◌, arith}
+use Rattle.std.proofs.Common.{◌≡◌, ℕ, ◌≤◌, IsTrue, List, Contains, Option, Some, None, inl, inr, refl, sym, ◌∙◌}
 use Rattle.std.proofs.lemmas.Option.{none-some}
 use Rattle.lrc_base.specs.declared.grammar.Kind.TheVariants as k
 use Rattle.lrc_meaning.specs.Tree.{Tree, fits}
 use Rattle.lrc_meaning.specs.Grammar.{Grammar, attrs_of_sort}
-use Rattle.lrc_meaning.specs.Attribution.{Decorated, attributes_of, IsAttribution, height, synthesised, Attributes}
+use Rattle.lrc_meaning.specs.Attribution.{Decorated, attributes_of, IsAttribution, height, synthesised}
 use Rattle.lrc_order_meaning.specs.Ordered.{Partitions, HasOrder}
 use Rattle.lrc_visit_meaning.specs.Values.{Result, root_call}
 use Rattle.lrc_visit_meaning.specs.Visits.{plain_visit}
@@ -12,7 +12,7 @@ use Rattle.lrc_visit_meaning.specs.Demand.{Met, demand, reach}
 use Rattle.lrc_store.specs.Cells.{CellTree}
 use Rattle.lrc_laws.proofs.SoundLemmas.{sound_plan}
 use Rattle.lrc_laws.proofs.RootLemmas.{attributes_given, given_attributes, demand_is_reach}
-use Rattle.lrc_call_meaning.specs.Reached.{cells_of, HaveSame, IsAttributed, IsUnattributed, IsDemand}
+use Rattle.lrc_call_meaning.specs.Reached.{cells_of, IsAttributed, IsUnattributed, IsDemand}
 use Rattle.lrc_cell_laws.proofs.ClosedLemmas.{met_parts, of_met}
 
 -- what is among what was met has its cells there

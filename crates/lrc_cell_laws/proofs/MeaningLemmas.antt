@@ -1,17 +1,17 @@
 -- Remembered calls have one result at most, none is nil, and what they reach is closed.
-use Rattle.std.proofs.Common.{◌≡◌, ◌≢◌, ℕ, ◌+◌, ◌≤◌, List, [], Contains, Option, Some, None, refl, sym, ap, ◌∙◌, subst, arith}
+use Rattle.std.proofs.Common.{◌≡◌, ◌≢◌, ℕ, ◌+◌, ◌≤◌, List, [], Contains, Some, refl, sym, ap, ◌∙◌, subst, arith}
 use Rattle.std.specs.Option.{option_map_or}
-use Rattle.std.proofs.lemmas.Option.{none-some, same_Some}
+use Rattle.std.proofs.lemmas.Option.{same_Some}
 use Rattle.lrc_meaning.specs.Grammar.{Grammar}
 use Rattle.lrc_order_meaning.specs.declared.Partition.{Partition}
 use Rattle.lrc_visit_meaning.specs.Values.{Call, Result}
 use Rattle.lrc_visit_meaning.specs.Visits.{plain_visit}
 use Rattle.lrc_visit_meaning.specs.Demand.{reach}
 use Rattle.lrc_store.specs.Cells.{CellTree, nil, IsClosed}
-use Rattle.lrc_laws.proofs.FuelLemmas.{visit_bounded, visit_same}
+use Rattle.lrc_laws.proofs.FuelLemmas.{visit_same}
 use Rattle.lrc_call_meaning.specs.Spelled.{HasSpelledLiterals, IsSpelledCall}
 use Rattle.lrc_call_meaning.specs.Forms.{call_form, result_form}
-use Rattle.lrc_call_meaning.specs.Decoding.{read_call, read_result}
+use Rattle.lrc_call_meaning.specs.Decoding.{read_result}
 use Rattle.lrc_call_meaning.specs.Reached.{cells_of}
 use Rattle.lrc_call_meaning.specs.Meaning.{Allows, reached_by}
 use Rattle.lrc_call_meaning.proofs.DecodingLemmas.{call-back, result-back}

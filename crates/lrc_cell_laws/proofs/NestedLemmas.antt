@@ -1,20 +1,18 @@
 -- A call that is met in the visit of a call that has a result is that call or has a lower result; and each result is that
 -- of a call that is met.
-use Rattle.std.proofs.Common.{◌≡◌, ◌≢◌, ℕ, zero, suc, ◌<◌, ◌≤◌, ◌⊎◌, inl, inr, cond, List, [], Contains, Option, Some, None, refl, sym, ap, ◌∙◌, subst, arith}
+use Rattle.std.proofs.Common.{◌≡◌, ◌≢◌, ℕ, zero, suc, ◌<◌, ◌≤◌, ◌⊎◌, inl, inr, cond, List, [], Contains, Some, sym, ap, ◌∙◌, subst, arith}
 use Rattle.std.specs.Option.{option_map}
-use Rattle.std.proofs.lemmas.Option.{none-some, same_Some}
+use Rattle.std.proofs.lemmas.Option.{same_Some}
 use Rattle.lrc_base.specs.declared.grammar.Kind.TheVariants as k
 use Rattle.lrc_base.specs.declared.grammar.Production.{Production}
 use Rattle.lrc_meaning.specs.Tree.{Tree, Trees}
 use Rattle.lrc_meaning.specs.Grammar.{Grammar}
 use Rattle.lrc_order_meaning.specs.declared.Partition.{Partition}
 use Rattle.lrc_plan_meaning.specs.declared.Action.{Action}
-use Rattle.lrc_plan_meaning.specs.declared.Action.TheVariants as a
 use Rattle.lrc_plan_meaning.specs.Items.{symbol_at}
 use Rattle.lrc_visit_meaning.specs.Values.{Call, Result}
 use Rattle.lrc_visit_meaning.specs.Visits.{Held, Given, is_of_kind, tree_at, call_of, given_by, step, plain_visit}
 use Rattle.lrc_visit_meaning.specs.Demand.{Met, called, answered, built, action_met, reach}
-use Rattle.lrc_order_meaning.proofs.MemberLemmas.{member_first}
 use Rattle.lrc_laws.proofs.FuelLemmas.{mapped, where_true, visit_bounded, visit_same}
 use Rattle.lrc_laws.proofs.SameReachLemmas.{reach_same}
 use Rattle.lrc_cell_laws.specs.Laws.{IsNested, IsOfCall}

@@ -1,7 +1,6 @@
 -- What the walk of a visit meets, besides its own call and result, is met by an action of its segment.
-use Rattle.std.proofs.Common.{◌≡◌, ℕ, suc, ◌<◌, ◌≤◌, Bool, true, false, cond, List, [], ◌∷◌, ◌++◌, map, Contains, Option, Some, None, inl, inr, slice_get, refl, sym, ap, ◌∙◌, subst, arith}
+use Rattle.std.proofs.Common.{◌≡◌, ℕ, suc, ◌<◌, ◌≤◌, Bool, true, false, cond, List, [], ◌∷◌, ◌++◌, Contains, Option, Some, None, inl, inr, slice_get, refl, sym, ap, ◌∙◌, subst, arith}
 use Rattle.std.specs.Option.{option_map, option_map_or, option_and_then}
-use Rattle.std.proofs.lemmas.Option.{none-some, same_Some}
 use Rattle.std.proofs.lemmas.List.Elements.{Contains-append_left, Contains-append_right, Contains-append_cases}
 use Rattle.lrc_base.specs.declared.grammar.Equation.{Equation}
 use Rattle.lrc_base.specs.declared.grammar.Kind.TheVariants as k
@@ -16,7 +15,7 @@ use Rattle.lrc_plan_meaning.specs.declared.Bound.{Bound}
 use Rattle.lrc_plan_meaning.specs.Items.{symbol_at, makes}
 use Rattle.lrc_plan_meaning.specs.Sequences.{segment}
 use Rattle.lrc_visit_meaning.specs.Values.{Call, Result}
-use Rattle.lrc_visit_meaning.specs.Visits.{Held, Given, Walked, walked_on, holding, walk, is_of_kind, is_visited, tree_at, call_of, given_by, held_at_start, leaf_in, equation_of, values_in, result_of, step, visit_of_node, visit_of_tree, one_visit, plain_visit}
+use Rattle.lrc_visit_meaning.specs.Visits.{Held, Given, Walked, walked_on, holding, walk, is_of_kind, is_visited, tree_at, call_of, held_at_start, leaf_in, equation_of, values_in, result_of, step, visit_of_node, visit_of_tree, plain_visit}
 use Rattle.lrc_visit_meaning.specs.Demand.{Met, called, answered, built, built_in, equation_met, walk_met, action_met, node_met, tree_met, reach}
 use Rattle.lrc_order_meaning.proofs.MemberLemmas.{member_first, member_later, member_cases, no_member, member_of_map}
 use Rattle.lrc_laws.proofs.FuelLemmas.{mapped, bound_by, where_true, max_right, walk_rises}

@@ -1,9 +1,9 @@
 -- What a spelled call meets is spelled, where the grammar's literals are: what a node holds is, from its start to its end.
-use Rattle.std.proofs.Common.{◌≡◌, ℕ, zero, suc, ◌+◌, ◌-◌, Bool, true, false, cond, List, [], ◌∷◌, ◌++◌, map, All, length, get_or, Contains, Option, Some, None, ◌⊎◌, inl, inr, slice_get, refl, sym, ap, ◌∙◌, subst, arith}
+use Rattle.std.proofs.Common.{◌≡◌, ℕ, zero, suc, ◌+◌, ◌-◌, Bool, true, false, cond, List, [], ◌∷◌, ◌++◌, map, All, length, Contains, Option, Some, None, inl, inr, slice_get, subst}
 use Rattle.std.specs.Prelude.{◌==◌, flat_map, slice_index_or}
 use Rattle.std.specs.Option.{IfSome, option_map, option_map_or, option_and_then}
 use Rattle.std.specs.List.{AllByRecursion, range_with_len}
-use Rattle.std.proofs.lemmas.Option.{none-some, same_Some, slice_get_within, get_or_from_slice_get}
+use Rattle.std.proofs.lemmas.Option.{none-some, same_Some}
 use Rattle.std.proofs.lemmas.List.Elements.{All-contains, Contains-append_cases}
 use Rattle.lrc_base.specs.declared.grammar.Kid.{Kid}
 use Rattle.lrc_base.specs.declared.grammar.Kind.TheVariants as k
@@ -22,15 +22,15 @@ use Rattle.lrc_plan_meaning.specs.Sequences.{segment}
 use Rattle.lrc_plan_meaning.specs.Bindings.{binding as items_between}
 use Rattle.lrc_plan_meaning.specs.Sound.{handed_in}
 use Rattle.lrc_visit_meaning.specs.Values.{Datum, value, binding, Data, no_data, data_then, data_row, data_list, value_in, binding_in, no_tree, Call, Result}
-use Rattle.lrc_visit_meaning.specs.Visits.{Held, Given, Walked, walked_on, walk, holding, nothing_held, is_of_kind, is_visited, leaf_in, symbol_trees, equation_of, values_at, values_in, evaluated, tree_at, call_of, given_by, held_at_start, result_of, step, visit_of_node, visit_of_tree, plain_visit}
-use Rattle.lrc_visit_meaning.specs.Demand.{Met, called, answered, built, name_literal, built_in, built_in_each, reach}
+use Rattle.lrc_visit_meaning.specs.Visits.{Held, Given, Walked, walked_on, walk, holding, nothing_held, is_of_kind, is_visited, leaf_in, symbol_trees, equation_of, values_in, evaluated, tree_at, call_of, given_by, held_at_start, result_of, step, visit_of_node, visit_of_tree, plain_visit}
+use Rattle.lrc_visit_meaning.specs.Demand.{Met, name_literal, built_in, built_in_each, reach}
 use Rattle.lrc_code.specs.Forms.{EachNameBelow}
 use Rattle.lrc_order_meaning.proofs.MemberLemmas.{member_cases, no_member, member_slice}
 use Rattle.lrc_call_meaning.specs.Spelled.{IsSpelledName, IsSpelled, AreLiteralsSpelled, AreAllLiteralsSpelled, HasSpelledLiterals, IsSpelledDatum, AreSpelledData, IsSpelledCall, IsSpelledResult, IsSpelledMet}
 use Rattle.lrc_call_meaning.proofs.ValueLemmas.{value-fine, item-fine}
 use Rattle.lrc_laws.proofs.FuelLemmas.{mapped, bound_by, where_true}
 use Rattle.lrc_laws.proofs.ReadLemmas.{found_there}
-use Rattle.lrc_cell_laws.proofs.ReachedLemmas.{IsKept, Reached, itself, inner, own, reached, ByAction, made, visits, by_action, reach_none}
+use Rattle.lrc_cell_laws.proofs.ReachedLemmas.{IsKept, itself, inner, own, reached, ByAction, made, visits, by_action, reach_none}
 
 -- ---- lists, each item of which is fine
 

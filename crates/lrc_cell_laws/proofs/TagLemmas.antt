@@ -1,5 +1,5 @@
 -- The visits of the calls that are met have numbers that fit their tags: a sort has few visits.
-use Rattle.std.proofs.Common.{◌≡◌, ℕ, zero, suc, ◌+◌, ◌*◌, ◌<◌, ◌≤◌, inl, inr, true, ◌&&◌, List, [], length, get_or, Contains, Option, Some, slice_get, sym, ap, ◌∙◌, subst, arith}
+use Rattle.std.proofs.Common.{◌≡◌, ℕ, zero, suc, ◌<◌, ◌≤◌, inl, inr, true, List, [], length, Contains, Some, slice_get, sym, ap, subst, arith}
 use Rattle.std.specs.Option.{option_map_or}
 use Rattle.std.proofs.lemmas.Bool.{cases_lt, and_parts, leb-true}
 use Rattle.std.proofs.lemmas.Option.{slice_get-get_or, slice_get_past, slice_get_within, get_or_from_slice_get}
@@ -12,13 +12,12 @@ use Rattle.lrc_meaning.specs.Limits.{IsWithinLimits}
 use Rattle.lrc_order_meaning.specs.declared.Partition.{Partition}
 use Rattle.lrc_order_meaning.specs.Ordered.{Partitions, HasOrder}
 use Rattle.lrc_plan_meaning.specs.declared.Action.{Action}
-use Rattle.lrc_plan_meaning.specs.declared.Action.TheVariants as a
 use Rattle.lrc_plan_meaning.specs.Items.{symbol_at, visits_of}
 use Rattle.lrc_plan_meaning.specs.Sequences.{segment}
 use Rattle.lrc_plan_meaning.specs.Sound.{IsSound}
 use Rattle.lrc_visit_meaning.specs.Values.{Call}
-use Rattle.lrc_visit_meaning.specs.Visits.{Held, is_call, is_visited}
-use Rattle.lrc_visit_meaning.specs.Demand.{Met, called, reach}
+use Rattle.lrc_visit_meaning.specs.Visits.{Held, is_call}
+use Rattle.lrc_visit_meaning.specs.Demand.{called, reach}
 use Rattle.lrc_laws.proofs.FewLemmas.{few_visits}
 use Rattle.lrc_laws.proofs.SoundLemmas.{sound_plan}
 use Rattle.lrc_cell_laws.specs.Laws.{HasTag}

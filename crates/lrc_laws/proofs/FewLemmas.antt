@@ -1,8 +1,7 @@
 -- A sort has few visits for its attributes: no set of attributes is empty, but perhaps the first, and a visit has two.
-use Rattle.std.proofs.Common.{◌≡◌, ℕ, zero, suc, ◌+◌, ◌-◌, ◌*◌, ◌<◌, ◌≤◌, ◌⊎◌, inl, inr, List, [], ◌∷◌, ◌++◌, map, length, Contains, Option, Some, All, eqb, refl, sym, ap, ◌∙◌, subst, arith}
-use Rattle.std.specs.Prelude.{slice_index}
+use Rattle.std.proofs.Common.{◌≡◌, ℕ, zero, suc, ◌+◌, ◌-◌, ◌*◌, ◌<◌, ◌≤◌, ◌⊎◌, inl, inr, List, [], ◌++◌, map, length, Contains, sym, ap, ◌∙◌, subst, arith}
 use Rattle.std.specs.Option.{option_map_or}
-use Rattle.std.specs.List.{list_any, range_with_len}
+use Rattle.std.specs.List.{range_with_len}
 use Rattle.std.proofs.Math.Bool.{not-not}
 use Rattle.std.proofs.lemmas.Bool.{cases_lt, cases_eq}
 use Rattle.std.proofs.lemmas.Cmp.{nat_eq_equiv}
@@ -14,9 +13,8 @@ use Rattle.std.proofs.lemmas.Map.Views.{list_any-from_Contains}
 use Rattle.lrc_base.specs.declared.grammar.Given.{Given}
 use Rattle.lrc_meaning.specs.Grammar.{Grammar, attrs_of_sort}
 use Rattle.lrc_order_meaning.specs.declared.Partition.{Partition}
-use Rattle.lrc_order_meaning.specs.Induced.{Induced}
-use Rattle.lrc_order_meaning.specs.Sets.{is_of_inherited, HasTurn, CanStand, InGreatest, Placed, InSet, AreEnough, IsVisits}
-use Rattle.lrc_order_meaning.specs.Ordered.{Partitions, ArePartitions, HasOrder}
+use Rattle.lrc_order_meaning.specs.Sets.{is_of_inherited, HasTurn, CanStand, InGreatest, Placed, InSet, IsVisits}
+use Rattle.lrc_order_meaning.specs.Ordered.{Partitions, ArePartitions}
 use Rattle.lrc_order_meaning.proofs.SetLemmas.{placed-later}
 use Rattle.lrc_order_meaning.proofs.TurnLemmas.{look_below, placed_within}
 use Rattle.lrc_order_meaning.proofs.MemberLemmas.{member_map, member_range, no_member}
