@@ -3,6 +3,7 @@ use Rattle.std.proofs.Common.{◌≡◌, ℕ, zero, suc, ◌+◌, ◌-◌, Bool,
 use Rattle.std.specs.Prelude.{◌==◌, flat_map, slice_index_or}
 use Rattle.std.specs.Option.{IfSome, option_map, option_map_or, option_and_then}
 use Rattle.std.specs.List.{AllByRecursion, range_with_len}
+use Rattle.std.proofs.lemmas.Bool.{cond_both}
 use Rattle.std.proofs.lemmas.Option.{none-some, same_Some}
 use Rattle.std.proofs.lemmas.List.Elements.{All-contains, Contains-append_cases}
 use Rattle.lrc_base.specs.declared.grammar.Kid.{Kid}
@@ -56,10 +57,6 @@ fine_at P [] i d h e = e
 fine_at P (x ∷ xs) zero d h e = h.0
 fine_at P (x ∷ xs) (suc i) d h e = fine_at P xs i d h.1 e
 
-fine_cond : {X : Type 0} (P : X → Type 0) (b : Bool) (x y : X) → P x → P y → P (cond b x y)
-fine_cond P true x y h i = h
-fine_cond P false x y h i = i
-
 -- ---- data
 
 value_spelled : (d : Datum) → IsSpelledDatum d → IsSpelled (value_in d)
@@ -88,7 +85,7 @@ holding_spelled : (xs : List Bound) (ds : List Datum) (m : Held) → AllByRecurs
 holding_spelled [] ds m h i = i
 holding_spelled (x ∷ xs) [] m h i = i
 holding_spelled (x ∷ xs) (d ∷ ds) m h i =
-    holding_spelled xs ds (λ y. cond (same_item x y) d (m y)) h.1 (λ y. fine_cond IsSpelledDatum (same_item x y) d (m y) h.0 (i y))
+    holding_spelled xs ds (λ y. cond (same_item x y) d (m y)) h.1 (λ y. cond_both (same_item x y) d (m y) IsSpelledDatum (λ _. h.0) (λ _. i y))
 
 -- ---- the children of a node
 
@@ -101,14 +98,14 @@ symbols_spelled [] ts h = tt
 symbols_spelled (kid ∷ kids) none h = tt
 symbols_spelled (kid ∷ kids) (more t ts) h =
     let rest = symbols_spelled kids ts h.1 in
-    fine_cond (AllByRecursion IsSpelled) (is_sort kid.kind) (t ∷ symbol_trees kids ts) (symbol_trees kids ts) (h.0, rest) rest
+    cond_both (is_sort kid.kind) (t ∷ symbol_trees kids ts) (symbol_trees kids ts) (AllByRecursion IsSpelled) (λ _. (h.0, rest)) (λ _. rest)
 
 leaf_spelled : (kids : List Kid) (ts : Trees) (i : ℕ) → EachNameBelow IsSpelledName ts → IfSome (leaf_in kids ts i) IsSpelled
 leaf_spelled kids ts i h = over (slice_get kids i)
   where
     over : (o : Option Kid) → IfSome (option_and_then (λ (kid : Kid). cond (is_sort kid.kind) None (slice_get (in_order ts) i)) o) IsSpelled
     over None = tt
-    over (Some kid) = fine_cond (λ o. IfSome o IsSpelled) (is_sort kid.kind) None (slice_get (in_order ts) i) tt (item-fine (in_order ts) i (kids_spelled ts h))
+    over (Some kid) = cond_both (is_sort kid.kind) None (slice_get (in_order ts) i) (λ o. IfSome o IsSpelled) (λ _. tt) (λ _. item-fine (in_order ts) i (kids_spelled ts h))
 
 -- ---- what an expression makes
 

@@ -2,7 +2,8 @@
 use Rattle.std.proofs.Common.{◌≡◌, ℕ, zero, suc, ◌<◌, ◌≤◌, inl, inr, true, List, [], length, Contains, Some, slice_get, sym, ap, subst, arith}
 use Rattle.std.specs.Option.{option_map_or}
 use Rattle.std.proofs.lemmas.Bool.{cases_lt, and_parts, leb-true}
-use Rattle.std.proofs.lemmas.Option.{slice_get-get_or, slice_get_past, slice_get_within, get_or_from_slice_get}
+use Rattle.std.proofs.lemmas.Option.{slice_get-get_or, slice_get_past}
+use Rattle.std.proofs.lemmas.List.Elements.{All-contains}
 use Rattle.lrc_base.specs.declared.limits.TheConstants.{ATTRIBUTE_LIMIT}
 use Rattle.lrc_base.specs.declared.grammar.Sort.{Sort}
 use Rattle.lrc_base.specs.declared.grammar.Production.{Production}
@@ -18,6 +19,7 @@ use Rattle.lrc_plan_meaning.specs.Sound.{IsSound}
 use Rattle.lrc_visit_meaning.specs.Values.{Call}
 use Rattle.lrc_visit_meaning.specs.Visits.{Held, is_call}
 use Rattle.lrc_visit_meaning.specs.Demand.{called, reach}
+use Rattle.lrc_order_meaning.proofs.MemberLemmas.{member_slice}
 use Rattle.lrc_laws.proofs.FewLemmas.{few_visits}
 use Rattle.lrc_laws.proofs.SoundLemmas.{sound_plan}
 use Rattle.lrc_cell_laws.specs.Laws.{HasTag}
@@ -41,7 +43,7 @@ module _ (g : Grammar) (found : Partitions) (order : HasOrder g found) (small : 
       subst (λ o. length (option_map_or (λ (t : Sort). t.attrs) o []) ≤ ATTRIBUTE_LIMIT) (sym (slice_get-get_or g.sorts s d less)) (small.attrs s d less)
 
   visits_there : (s : ℕ) → s < length g.sorts → visits_of parts s ≤ 9
-  visits_there s less = let few = few_visits g found order.partitions s less in let attrs = few_attrs s less in omega (arith, few, attrs)
+  visits_there s less = let few = few_visits g found order s less in let attrs = few_attrs s less in omega (arith, few, attrs)
 
   no_visits : (s : ℕ) → length g.sorts ≤ s → visits_of parts s ≡ 0
   no_visits s above =
@@ -54,9 +56,7 @@ module _ (g : Grammar) (found : Partitions) (order : HasOrder g found) (small : 
       elim (cases_lt s (length g.sorts)) [ inl less ↦ visits_there s less | inr above ↦ let none = no_visits s above in omega (arith, none) ]
 
   sound_at : (n : ℕ) (q : Production) → slice_get g.prods n ≡ Some q → IsSound g.sorts parts q
-  sound_at n q there =
-      let less = slice_get_within g.prods n q there in
-      subst (IsSound g.sorts parts) (get_or_from_slice_get g.prods n q q there) ((sound_plan g found order).sound n q less)
+  sound_at n q there = All-contains (IsSound g.sorts parts) g.prods q (sound_plan g found order).sound (member_slice g.prods n q there)
 
   action_tag : (fuel : ℕ) (c : Call) (q : Production) (kids : Trees) (m : Held) (y : Action) (d : Call) → IsSound g.sorts parts q → is_call g parts q c ≡ true
       → Contains (segment g.sorts parts q c.visit) y → ByAction g parts fuel q kids m (called d) y

@@ -14,12 +14,13 @@ use Rattle.lrc_base.specs.declared.grammar.Given.{Given}
 use Rattle.lrc_meaning.specs.Grammar.{Grammar, attrs_of_sort}
 use Rattle.lrc_order_meaning.specs.declared.Partition.{Partition}
 use Rattle.lrc_order_meaning.specs.Sets.{is_of_inherited, HasTurn, CanStand, InGreatest, Placed, InSet, IsVisits}
-use Rattle.lrc_order_meaning.specs.Ordered.{Partitions, ArePartitions}
+use Rattle.lrc_order_meaning.specs.Ordered.{Partitions, HasOrder}
 use Rattle.lrc_order_meaning.proofs.SetLemmas.{placed-later}
 use Rattle.lrc_order_meaning.proofs.TurnLemmas.{look_below, placed_within}
 use Rattle.lrc_order_meaning.proofs.MemberLemmas.{member_map, member_range, no_member}
 use Rattle.lrc_plan_meaning.specs.Items.{visits_of}
-use Rattle.lrc_laws.proofs.PartitionLemmas.{partition_at}
+use Rattle.lrc_plan_meaning.proofs.ExtendedLemmas.{partition_of}
+use Rattle.lrc_ordered.proofs.PartitionLemmas.{one_set}
 
 module _ (g : Grammar) (given : List Given) (s : ℕ) where
   abbrev count : ℕ
@@ -40,16 +41,15 @@ module _ (g : Grammar) (given : List Given) (s : ℕ) where
         ];
   }
 
-  -- the attribute is one of set k + 1
-  record IsNew (k a : ℕ) : Type 0 where
-    now : Placed g given s (suc k) a
-    not_before : ¬ Placed g given s k a
-
-  -- all of the first n attributes that are new in set k + 1 can stand there together
+  -- all of the first n attributes that are in set k + 1 can stand there together
   record StandTogether (k n : ℕ) : Type 0 where
     set : List ℕ
     can_stand : CanStand g given s (suc k) (Placed g given s k) set
-    has : (a : ℕ) → a < n → IsNew k a → Contains set a
+    has : (a : ℕ) → a < n → InSet g given s (suc k) a → Contains set a
+
+  -- a member of set k + 1 is in the greatest that can stand there
+  in_greatest : (k a : ℕ) → InSet g given s (suc k) a → InGreatest g given s (suc k) (Placed g given s k) a
+  in_greatest k a h = elim h.0 [ inl early ↦ absurd (h.1 k (omega arith) early) | inr great ↦ great ]
 
   module _ (set_of : (a : ℕ) → a < count → (k : ℕ) × InSet g given s k a) where
     decide_placed : (k a : ℕ) → Placed g given s k a ⊎ (¬ Placed g given s k a)
@@ -61,20 +61,31 @@ module _ (g : Grammar) (given : List Given) (s : ℕ) where
               elim (cases_lt k at.0) [ inl early ↦ inr (at.1.1 k early) | inr late ↦ inl (placed-later g given s at.0 k a late at.1.0) ]
         ]
 
-    new_over : (k a : ℕ) → Placed g given s (suc k) a ⊎ (¬ Placed g given s (suc k) a) → Placed g given s k a ⊎ (¬ Placed g given s k a) → IsNew k a ⊎ (¬ IsNew k a)
-    new_over k a (inr later) before = inr (λ h. later h.now)
-    new_over k a (inl now) (inl before) = inr (λ h. h.not_before before)
-    new_over k a (inl now) (inr not_before) = inl (record { now = now; not_before = not_before })
+    decide_set : (k a : ℕ) → InSet g given s k a ⊎ (¬ InSet g given s k a)
+    decide_set k a =
+        elim (cases_lt a count) [
+          | inr above ↦ inr (λ h. let within = placed_within g given s k a h.0 in absurd (omega (arith, within, above)))
+          | inl less ↦
+              let at = set_of a less in
+              elim (cases_eq at.0 k) [ inl e ↦ inl (subst (λ n. InSet g given s n a) e at.1) | inr ne ↦ inr (λ h. let e = one_set g given s a at.0 k at.1 h in absurd (omega (arith, e, ne))) ]
+        ]
 
-    decide_new : (k a : ℕ) → IsNew k a ⊎ (¬ IsNew k a)
-    decide_new k a = new_over k a (decide_placed (suc k) a) (decide_placed k a)
+    -- what is placed by set k + 1 is in it, or was placed before
+    placed_there : (k a : ℕ) → Placed g given s (suc k) a → Placed g given s k a ⊎ InSet g given s (suc k) a
+    placed_there k a h =
+        let at = set_of a (placed_within g given s (suc k) a h) in
+        elim (cases_lt k at.0) [
+          | inr late ↦ inl (placed-later g given s at.0 k a late at.1.0)
+          | inl early ↦
+              elim (cases_lt (suc k) at.0) [
+                | inl above ↦ absurd (at.1.1 (suc k) above h)
+                | inr within ↦ let e : at.0 ≡ suc k = omega (arith, early, within) in inr (subst (λ n. InSet g given s n a) e at.1)
+              ]
+        ]
 
-    new_greatest : (k a : ℕ) → IsNew k a → InGreatest g given s (suc k) (Placed g given s k) a
-    new_greatest k a h = elim h.now [ inl early ↦ absurd (h.not_before early) | inr great ↦ great ]
-
-    one_more : (k n : ℕ) → IsNew k n ⊎ (¬ IsNew k n) → StandTogether k n → StandTogether k (suc n)
-    one_more k n (inl new) rest =
-        let great = new_greatest k n new in
+    one_more : (k n : ℕ) → InSet g given s (suc k) n ⊎ (¬ InSet g given s (suc k) n) → StandTogether k n → StandTogether k (suc n)
+    one_more k n (inl in_set) rest =
+        let great = in_greatest k n in_set in
         record {
           set = great.set ++ rest.set;
           can_stand = stand_together (suc k) (Placed g given s k) great.set rest.set great.can_stand rest.can_stand;
@@ -84,66 +95,55 @@ module _ (g : Grammar) (given : List Given) (s : ℕ) where
                 | inr ne ↦ Contains-append_right great.set rest.set a (rest.has a (omega (arith, less, ne)) h)
               ];
         }
-    one_more k n (inr old) rest = record {
+    one_more k n (inr other) rest = record {
       set = rest.set;
       can_stand = rest.can_stand;
-      has = λ a less h. elim (cases_eq a n) [ inl e ↦ absurd (old (subst (IsNew k) e h)) | inr ne ↦ rest.has a (omega (arith, less, ne)) h ];
+      has = λ a less h. elim (cases_eq a n) [ inl e ↦ absurd (other (subst (InSet g given s (suc k)) e h)) | inr ne ↦ rest.has a (omega (arith, less, ne)) h ];
     }
 
-    all_new : (k n : ℕ) → StandTogether k n
-    all_new k zero = record {
+    all_of_set : (k n : ℕ) → StandTogether k n
+    all_of_set k zero = record {
       set = [];
       can_stand = record { turn = All-nil (HasTurn g s (suc k)); closed = λ a b c pair. absurd (no_member a c) };
       has = λ a less h. absurd (omega (arith, less));
     }
-    all_new k (suc n) = one_more k n (decide_new k n) (all_new k n)
-
-    old_placed : (k a : ℕ) → (¬ IsNew k a) → Placed g given s (suc k) a → Placed g given s k a
-    old_placed k a old now =
-        elim (decide_placed k a) [ inl before ↦ before | inr not_before ↦ absurd (old (record { now = now; not_before = not_before })) ]
+    all_of_set k (suc n) = one_more k n (decide_set (suc k) n) (all_of_set k n)
 
     -- what follows an empty set could have stood before it
-    none_follows : (k a : ℕ) → ((b : ℕ) → b < count → ¬ IsNew (suc k) b) → InGreatest g given s (suc (suc (suc k))) (Placed g given s (suc (suc k))) a → Placed g given s (suc k) a
+    none_follows : (k a : ℕ) → ((b : ℕ) → b < count → ¬ InSet g given s (suc (suc k)) b) → InGreatest g given s (suc (suc (suc k))) (Placed g given s (suc (suc k))) a → Placed g given s (suc k) a
     none_follows k a empty great =
-        let new = all_new k count in
+        let before = all_of_set k count in
         inr (record {
-          set = great.set ++ new.set;
+          set = great.set ++ before.set;
           can_stand = record {
             turn =
-                All-append (HasTurn g s (suc k)) great.set new.set
-                (All-weaker (HasTurn g s (suc (suc (suc k)))) (HasTurn g s (suc k)) (λ b. turn_back (suc k) b) great.set great.can_stand.turn) new.can_stand.turn;
+                All-append (HasTurn g s (suc k)) great.set before.set
+                (All-weaker (HasTurn g s (suc (suc (suc k)))) (HasTurn g s (suc k)) (λ b. turn_back (suc k) b) great.set great.can_stand.turn) before.can_stand.turn;
             closed = λ x y c pair.
-                elim (Contains-append_cases great.set new.set x c) [
-                  | inr r ↦ elim (new.can_stand.closed x y r pair) [ inl e ↦ inl e | inr m ↦ inr (Contains-append_right great.set new.set y m) ]
+                elim (Contains-append_cases great.set before.set x c) [
+                  | inr r ↦ elim (before.can_stand.closed x y r pair) [ inl e ↦ inl e | inr m ↦ inr (Contains-append_right great.set before.set y m) ]
                   | inl l ↦
                       elim (great.can_stand.closed x y l pair) [
-                        | inr m ↦ inr (Contains-append_left great.set new.set y m)
+                        | inr m ↦ inr (Contains-append_left great.set before.set y m)
                         | inl placed ↦
                             let within = placed_within g given s (suc (suc k)) y placed in
-                            let now = old_placed (suc k) y (empty y within) placed in
-                            elim (decide_placed k y) [
-                              | inl before ↦ inl before
-                              | inr later ↦ inr (Contains-append_right great.set new.set y (new.has y within (record { now = now; not_before = later })))
+                            elim (placed_there (suc k) y placed) [
+                              | inr never ↦ absurd (empty y within never)
+                              | inl earlier ↦
+                                  elim (placed_there k y earlier) [ inl e ↦ inl e | inr there ↦ inr (Contains-append_right great.set before.set y (before.has y within there)) ]
                             ]
                       ]
                 ];
           };
-          member = Contains-append_left great.set new.set a great.member;
+          member = Contains-append_left great.set before.set a great.member;
         })
-
-    new_in_set : (k a : ℕ) → IsNew k a → InSet g given s (suc k) a
-    new_in_set k a h = (h.now, λ n less early. h.not_before (placed-later g given s n k a (omega arith) early))
 
     -- a set below one with a member has a member, but perhaps the first
     below_one : (k a : ℕ) → InSet g given s (suc (suc (suc k))) a → (b : ℕ) × InSet g given s (suc (suc k)) b
     below_one k a h =
-        elim (look_below (IsNew (suc k)) (decide_new (suc k)) count) [
-          | inl w ↦ (w.0, new_in_set (suc k) w.0 w.2)
-          | inr empty ↦
-              elim h.0 [
-                | inl early ↦ absurd (h.1 (suc (suc k)) (omega arith) early)
-                | inr great ↦ absurd (h.1 (suc k) (omega arith) (none_follows k a empty great))
-              ]
+        elim (look_below (InSet g given s (suc (suc k))) (decide_set (suc (suc k))) count) [
+          | inl w ↦ (w.0, w.2)
+          | inr empty ↦ absurd (h.1 (suc k) (omega arith) (none_follows k a empty (in_greatest (suc (suc k)) a h)))
         ]
 
     pub each_below : (m a j : ℕ) → InSet g given s m a → 2 ≤ j → j ≤ m → (b : ℕ) × InSet g given s j b
@@ -164,15 +164,8 @@ module _ (g : Grammar) (given : List Given) (s : ℕ) where
     abbrev number : ℕ → ℕ
     number a = number_over a (cases_lt a count)
 
-    one_set : (j k a : ℕ) → InSet g given s j a → InSet g given s k a → j ≡ k
-    one_set j k a h i =
-        elim (cases_lt j k) [
-          | inl less ↦ absurd (i.1 j less h.0)
-          | inr le ↦ elim (cases_lt k j) [ inl less ↦ absurd (h.1 k less i.0) | inr ge ↦ omega (arith, le, ge) ]
-        ]
-
     number_is : (j a : ℕ) (c : (a < count) ⊎ (count ≤ a)) → InSet g given s j a → number_over a c ≡ j - 2
-    number_is j a (inl less) h = ap (λ k. k - 2) (one_set (set_of a less).0 j a (set_of a less).1 h)
+    number_is j a (inl less) h = ap (λ k. k - 2) (one_set g given s a (set_of a less).0 j (set_of a less).1 h)
     number_is j a (inr above) h = let within = placed_within g given s j a h.0 in absurd (omega (arith, within, above))
 
     -- so there are as many attributes as sets from the second to any with a member
@@ -210,10 +203,10 @@ module _ (g : Grammar) (given : List Given) (s : ℕ) where
         decide_late : (a : ℕ) → (¬ Placed g given s (2 * suc m) a) ⊎ (¬ (¬ Placed g given s (2 * suc m) a))
         decide_late a = elim (decide_placed (2 * suc m) a) [ inl placed ↦ inr (λ later. later placed) | inr later ↦ inl later ]
 
-pub few_visits : (g : Grammar) (found : Partitions) → ArePartitions g found → (s : ℕ) → s < length g.sorts → 2 * visits_of found.sorts s ≤ length (attrs_of_sort g.sorts s) + 2
-few_visits g found are s less =
-    let at = partition_at g found are s less in
-    let partition = are.each s at.0 at.1 in
+pub few_visits : (g : Grammar) (found : Partitions) → HasOrder g found → (s : ℕ) → s < length g.sorts → 2 * visits_of found.sorts s ≤ length (attrs_of_sort g.sorts s) + 2
+few_visits g found order s less =
+    let at = partition_of g found order.partitions order.given s less in
+    let partition = at.2 in
     let set_of : (a : ℕ) → a < length (attrs_of_sort g.sorts s) → (k : ℕ) × InSet g found.given s k a =
     λ a within.
     let of = partition.visit_of a (subst (λ n. a < n) (sym partition.attributes) within) in (of.set, of.in_set) in

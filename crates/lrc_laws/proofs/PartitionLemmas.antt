@@ -30,7 +30,7 @@ half_up set visits visit e low high = (omega arith, omega arith)
 
 module _ (g : Grammar) (found : Partitions) (are : ArePartitions g found) where
   -- the partition of a sort that is there
-  pub partition_at : (s : ℕ) → s < length g.sorts → (partition : Partition) × (slice_get found.sorts s ≡ Some partition)
+  partition_at : (s : ℕ) → s < length g.sorts → (partition : Partition) × (slice_get found.sorts s ≡ Some partition)
   partition_at s less =
       let d : Partition = record { visits = 0; visit_of = []; before = record { points = 0; rows = [] } } in
       let within : s < length found.sorts = subst (λ n. s < n) (sym are.sorts) less in
