@@ -68,18 +68,6 @@ abbrev pub DemandIsCells : Type 0
 DemandIsCells = (g : Grammar) (found : Partitions) → HasOrder g found → (limit : ℕ) (t : Tree) → IsTrue (fits g.prods t (k.Sort g.start))
     → IsDemand g found.sorts limit t (cells_of (reach g found.sorts limit (root_call t)))
 
--- each list of cells has a size
-abbrev pub SizesExist : Type 0
-SizesExist = (cells : List CellTree) → (n : ℕ) × HasSize cells n
-
--- lists with the same members have the same size
-abbrev pub SizesAgree : Type 0
-SizesAgree = (cells others : List CellTree) (n : ℕ) → HaveSame cells others → HasSize cells n → HasSize others n
-
--- and a list whose members another has is of no greater size, so that each has one size only
-abbrev pub SizesGrow : Type 0
-SizesGrow = (cells others : List CellTree) (m n : ℕ) → IsWithin cells others → HasSize cells m → HasSize others n → m ≤ n
-
 -- where a grammar's literals are spelled, all that a spelled call meets is spelled
 abbrev pub ReachIsSpelled : Type 0
 ReachIsSpelled = (g : Grammar) (parts : List Partition) → HasSpelledLiterals g → (fuel : ℕ) (c : Call) → IsSpelledCall c
@@ -89,3 +77,19 @@ ReachIsSpelled = (g : Grammar) (parts : List Partition) → HasSpelledLiterals g
 abbrev pub ResultsAreSpelled : Type 0
 ResultsAreSpelled = (g : Grammar) (parts : List Partition) → HasSpelledLiterals g → (fuel : ℕ) (c : Call) (r : Result) → IsSpelledCall c
     → plain_visit g parts fuel c ≡ Some r → IsSpelledResult r
+
+-- each list of cells has a size
+abbrev pub SizesExist : Type 0
+SizesExist = (cells : List CellTree) → (n : ℕ) × HasSize cells n
+
+-- and one only
+abbrev pub SizesAreUnique : Type 0
+SizesAreUnique = (cells : List CellTree) (m n : ℕ) → HasSize cells m → HasSize cells n → m ≡ n
+
+-- lists with the same members have the same size
+abbrev pub SizesAgree : Type 0
+SizesAgree = (cells others : List CellTree) (n : ℕ) → HaveSame cells others → HasSize cells n → HasSize others n
+
+-- and a list whose members another has is of no greater size
+abbrev pub SizesGrow : Type 0
+SizesGrow = (cells others : List CellTree) (m n : ℕ) → IsWithin cells others → HasSize cells m → HasSize others n → m ≤ n
