@@ -25,7 +25,8 @@ any-fine : {A : Type 0} (found : Option A) → IfSome found Any
 any-fine None = tt
 any-fine (Some x) = tt
 
-item-fine : (values : List Tree) (i : ℕ) → AllByRecursion IsSpelled values → IfSome (slice_get values i) IsSpelled
+-- an item of a spelled list
+pub item-fine : (values : List Tree) (i : ℕ) → AllByRecursion IsSpelled values → IfSome (slice_get values i) IsSpelled
 item-fine [] i h = tt
 item-fine (v ∷ vs) zero h = h.0
 item-fine (v ∷ vs) (suc i) h = item-fine vs i h.1

@@ -1,3 +1,5 @@
 pub mod Spelled
 pub mod Forms
 pub mod Decoding
+pub mod Reached
+pub mod Meaning

@@ -20,3 +20,4 @@ pub mod DemandLemmas
 pub mod ReachLemmas
 pub mod SameReachLemmas
 pub mod SoundLemmas
+pub mod FewLemmas

@@ -1,11 +1,12 @@
 -- Laws of attributions and plain visits.
-use Rattle.std.specs.Prelude.{◌≡◌, ℕ, ◌≤◌, ◌<◌, IsTrue, List, Some, None, All, Contains, ◌↔◌}
+use Rattle.std.specs.Prelude.{◌≡◌, ℕ, ◌+◌, ◌*◌, ◌≤◌, ◌<◌, IsTrue, List, length, Some, None, All, Contains, ◌↔◌}
 use Rattle.lrc_base.specs.declared.grammar.Kind.TheVariants as k
 use Rattle.lrc_meaning.specs.Tree.{Tree, fits}
-use Rattle.lrc_meaning.specs.Grammar.{Grammar}
+use Rattle.lrc_meaning.specs.Grammar.{Grammar, attrs_of_sort}
 use Rattle.lrc_meaning.specs.Attribution.{Decorated, IsAttribution, height, Attributes}
 use Rattle.lrc_order_meaning.specs.declared.Partition.{Partition}
 use Rattle.lrc_order_meaning.specs.Ordered.{Partitions, HasOrder}
+use Rattle.lrc_plan_meaning.specs.Items.{visits_of}
 use Rattle.lrc_plan_meaning.specs.Sound.{IsSound}
 use Rattle.lrc_visit_meaning.specs.Values.{Call, Result, root_call}
 use Rattle.lrc_visit_meaning.specs.Visits.{plain_visit}
@@ -30,6 +31,11 @@ MoreFuelMeetsTheSame = (g : Grammar) (parts : List Partition) (fuel other : ℕ)
 -- is made, and nothing becomes available twice
 abbrev pub OrderedIsSound : Type 0
 OrderedIsSound = (g : Grammar) (found : Partitions) → HasOrder g found → All (IsSound g.sorts found.sorts) g.prods
+
+-- a sort has few visits for its attributes: at most one for two of them, and one more
+abbrev pub VisitsAreFew : Type 0
+VisitsAreFew = (g : Grammar) (found : Partitions) → HasOrder g found → (s : ℕ) → s < length g.sorts
+    → 2 * visits_of found.sorts s ≤ length (attrs_of_sort g.sorts s) + 2
 
 -- a tree of the start sort has one attribution at most, of whatever height
 abbrev pub AttributionsAreUnique : Type 0

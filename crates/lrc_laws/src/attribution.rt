@@ -1,8 +1,14 @@
-ghost use Rattle.lrc_laws.specs.Laws.{OrderedIsSound, AttributionsAreUnique, VisitsGiveAttributes, VisitsAreAsHigh, DemandIsReach};
+ghost use Rattle.lrc_laws.specs.Laws.{OrderedIsSound, VisitsAreFew, AttributionsAreUnique, VisitsGiveAttributes, VisitsAreAsHigh, DemandIsReach};
 
 /// The greedy visit sequences of an ordered grammar, with its given pairs, are sound.
 pub fn ordered_plans_are_sound()
     ensures { OrderedIsSound }
+{}
+
+/// Over an ordered grammar twice the number of a sort's visits is at most two more than the number of
+/// its attributes.
+pub fn visits_are_few()
+    ensures { VisitsAreFew }
 {}
 
 /// Over an ordered grammar a tree of the start sort has one attribution at most, of whatever height,
