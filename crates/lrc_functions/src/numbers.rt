@@ -53,7 +53,8 @@ impl Numbers {
         occurrences: u32,
         visits: &[u32],
     ) -> Result<(Numbers, u32), Memory>
-        ensures { IfOk result (λ found. (found.0 ≡ rows_from occurrences visits.now) × (found.1 ≡ end_from occurrences visits.now)) }
+        ensures numbers { IfOk result (λ found. found.0 ≡ rows_from occurrences visits.now) }
+        ensures count { IfOk result (λ found. found.1 ≡ end_from occurrences visits.now) }
     {
         let mut rows = List::new(alloc);
         let mut next = occurrences;

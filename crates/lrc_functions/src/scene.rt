@@ -85,7 +85,12 @@ impl<'a> Scene<'a> {
     fn equation(&self, occurrence: u32) -> Option<usize>
         ensures { result ≡ slice_index_or (signature_of self.now.sorts.now self.now.production.now).equations occurrence None }
     {
-        let equations = self.plan.grammar.signature(self.number).equations.as_slice();
+        let equations = self
+            .plan
+            .grammar
+            .signature(self.number)
+            .equations
+            .as_slice();
         match at(equations, occurrence as usize) {
             Some(equation) => *equation,
             None => None,
