@@ -1,2 +1,6 @@
 pub mod ValueLemmas
 pub mod SameLemmas
+pub mod CellLemmas
+pub mod GivenLemmas
+pub mod EvaluateLemmas
+pub mod MakeLemmas
