@@ -1,5 +1,5 @@
 -- What is answered of an expression, from what is answered of its parts.
-use Rattle.std.proofs.Common.{◌≡◌, ℕ, zero, suc, ◌<◌, ◌≤◌, ℤ, Bool, true, false, List, [], ◌∷◌, ◌++◌, length, refl, sym, ◌∙◌, ap, subst, arith, Option, Some, None, IsSome, cond}
+use Rattle.std.proofs.Common.{◌≡◌, ◌⊎◌, inl, inr, ℕ, zero, suc, ◌<◌, ◌≤◌, ℤ, Bool, true, false, List, [], ◌∷◌, ◌++◌, length, refl, sym, ◌∙◌, ap, subst, arith, Option, Some, None, IsSome, cond}
 use Rattle.std.specs.Prelude.{Result, Ok, Err, IsErr, IfSome, slice_get, slice_index_or, option_map, option_and_then}
 use Rattle.std.specs.Option.{option_map_or}
 use Rattle.std.proofs.lemmas.Bool.{false≢true}
@@ -11,6 +11,7 @@ use Rattle.lrc_visit_meaning.specs.Demand.{built_in, built_in_each}
 use Rattle.lrc_store.specs.Cells.{CellTree, parts, IsWithin}
 use Rattle.lrc_store.specs.Standing.{Standing, Told}
 use Rattle.lrc_store.specs.Words.{Keeps, Adds, LacksOne, Reads}
+use Rattle.lrc_store.specs.declared.cells.Handle.{Handle}
 use Rattle.lrc_store.specs.declared.stores.Full.{Full}
 use Rattle.lrc_store.proofs.Lasting.{adds-same, adds-more, stays-gains, lacks-more}
 use Rattle.lrc_code.specs.Forms.{name_cell, tree_cell}
@@ -148,6 +149,18 @@ module _ (x : Inputs) (op : Op) (a b : Expression) where
       }
 
 -- ---- choices
+
+abbrev is_truth : Val → Bool
+is_truth (v.Int n) = false
+is_truth (v.Bool d) = true
+is_truth (v.Ref h) = false
+is_truth v.Unset = false
+
+-- a number, a name, a tree and what is not set are no truth values
+pub no-truth-value : (value : Val) → ((n : ℤ) × (value ≡ v.Int n)) ⊎ (((h : Handle) × (value ≡ v.Ref h)) ⊎ (value ≡ v.Unset)) → (d : Bool) → value ≡ v.Bool d → ⊥
+no-truth-value value (inl (n, e)) d f = false≢true (ap is_truth (sym e ∙ f))
+no-truth-value value (inr (inl (h, e))) d f = false≢true (ap is_truth (sym e ∙ f))
+no-truth-value value (inr (inr e)) d f = false≢true (ap is_truth (sym e ∙ f))
 
 module _ (x : Inputs) (c a b : Expression) where
   condition-in : IsWithin (built_cells x c) (built_cells x (choice c a b))

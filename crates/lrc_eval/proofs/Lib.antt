@@ -4,3 +4,4 @@ pub mod CellLemmas
 pub mod GivenLemmas
 pub mod EvaluateLemmas
 pub mod MakeLemmas
+pub mod FormLemmas
