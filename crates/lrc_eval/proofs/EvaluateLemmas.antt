@@ -210,15 +210,19 @@ module _ (x : Inputs) (c a b : Expression) where
   follows s t u e condition answer built is h k = over answer k where
     whole : List CellTree
     whole = built_cells x (choice c a b)
+
     branch-in : IsWithin (built_cells x e) whole
     branch-in = subst (λ (ts : List Tree). IsWithin (built_cells x e) (cells_of_trees ts)) (sym built) (cells-right (built_in x.values (leaves x) c) (built_in x.values (leaves x) e))
+
     adds : Adds t u (built_cells x e) → Adds s u whole
     adds g = adds-in s t u (built_cells x e) whole branch-in (adds-more s t (built_cells x c) whole condition-in h.adds) g
+
     seen : Adds t u (built_cells x e) → AreSeen u (built_cells x e) → AreSeen u whole
     seen g f =
         told-each u.seen (built_cells x c) (built_cells x e) whole
         (λ cells one other. subst (λ (ts : List Tree). IsWithin (cells_of_trees ts) cells) (sym built) (cells-each (built_in x.values (leaves x) c) (built_in x.values (leaves x) e) cells one other))
         (told-lasts t.seen u.seen (built_cells x c) g.gains.lasts.seen h.seen) f
+
     over : (ans : Result (Option Val) Full) → Evaluates t u x e ans → Evaluates s u x (choice c a b) ans
     over (Ok None) k' = ends-none s u x (choice c a b) (adds k'.adds) (is ∙ k'.found)
     over (Ok (Some value)) k' = ends-some s u x (choice c a b) value k'.found.0 (adds k'.adds) (is ∙ k'.found.1) k'.found.2 (seen k'.adds k'.seen)

@@ -119,6 +119,7 @@ leaf-there s values handle x i g = over (slice_get x.kids i) refl g.fits where
         kid = (x.production, kid_cells x.trees, stands-meant s handle.0 (tree_cell (node x.production x.trees)) g.node.stands, kid-cell x.trees i item.0 item.1);
         spelled = item.2;
       }
+
   over : (o : Option Kid) → slice_get x.kids i ≡ o → IsSome (option_and_then (λ (k : Kid). cond (is_sort k.kind) None (Some k.kind)) o) → LeafThere s handle x i
   over None e h = absurd (false≢true h)
   over (Some kid) e h = at kid e (is_sort kid.kind) refl h

@@ -69,6 +69,7 @@ known-told s h sound known = record {
   at seen all closed nil e = λ part never. absurd (omega (arith, never.1))
   at seen all closed (number z) e = closed (number z) (all h (number z) e (λ same. absurd (cc)))
   at seen all closed (pair tag l r) e = closed (pair tag l r) (all h (pair tag l r) e (λ same. absurd (cc)))
+
   over : (o : Option (List CellTree)) → Told o (λ seen. (handle : ℕ) (cell : CellTree) → Stands s handle cell → cell ≢ nil → Contains seen cell) → Told o IsClosed → Told o (λ seen. HoldsParts seen (meant s h))
   over None all closed = tt
   over (Some seen) all closed = at seen all closed (meant s h) (known-stands s h known)

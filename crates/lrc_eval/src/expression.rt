@@ -63,7 +63,14 @@ pub fn evaluate<St: Store>(
         Expr::Leaf(i) => Ok(Some(leaf_value(store, node, *i))),
         Expr::Op(op, left, right) => operation(store, *op, left.get(), right.get(), values, node),
         Expr::If(condition, then, other) => {
-            chosen(store, condition.get(), then.get(), other.get(), values, node)
+            chosen(
+                store,
+                condition.get(),
+                then.get(),
+                other.get(),
+                values,
+                node,
+            )
         }
         Expr::Make(production, args) => made(store, *production, args.as_slice(), values, node),
     }

@@ -25,7 +25,7 @@ returns-clause-means g c tree kid =
     let leaf = c.kid_of-leaf.result.0 in
     c.value_of_handle.ensures.means tree
     (known-stands t leaf c.kid_of-leaf.ensures.known
-        ∙ ap Some (one-kid (meant s c.args.node.0) c.args.i (meant t leaf) (tree_cell tree) c.kid_of-leaf.ensures.kid kid))
+    ∙ ap Some (one-kid (meant s c.args.node.0) c.args.i (meant t leaf) (tree_cell tree) c.kid_of-leaf.ensures.kid kid))
 
 pub returns-clause-reads : goal.returns-clause-reads
 returns-clause-reads g c =
