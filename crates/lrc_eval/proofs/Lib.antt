@@ -1,0 +1,7 @@
+pub mod ValueLemmas
+pub mod SameLemmas
+pub mod CellLemmas
+pub mod GivenLemmas
+pub mod EvaluateLemmas
+pub mod MakeLemmas
+pub mod FormLemmas
