@@ -68,5 +68,5 @@ module _ (g : Grammar) (parts : List Partition) where
   abbrev pub after : Run → Action → List Datum → Run
   after r x ds = record r {
     available = r.available ++ makes g.sorts parts r.production x;
-    held = holding (makes g.sorts parts r.production x) ds r.held
+    held = holding (makes g.sorts parts r.production x) ds r.held;
   }
