@@ -23,7 +23,7 @@ start S;
 /// The grammar of a text by numbers.
 fn numbered(alloc: Global, text: &[u8]) -> Result<Numbered, Fail> {
     let job = read_job(alloc, text)?;
-    Ok(named_grammar(alloc, &job.grammar)?.ok_or("a name is unknown")?)
+    Ok(named_grammar(alloc, &job.grammar)?)
 }
 
 #[test]
