@@ -1,5 +1,5 @@
 ghost use Rattle.lrc_meaning.specs.Naming.{named_target, named_equation, named_equations};
-ghost use Rattle.lrc_naming.specs.Called.{IsCounted};
+ghost use Rattle.lrc_naming.specs.Counted.{IsCounted};
 ghost use Rattle.lrc_naming.specs.Names.{Names, NamesPart};
 
 use crate::expr::named_expr;

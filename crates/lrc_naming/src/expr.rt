@@ -1,7 +1,7 @@
 ghost use Rattle.std.specs.Prelude.{◌≡◌, None, Some, map, option_map, IfOk};
 ghost use Rattle.lrc_base.specs.declared.expr.Expr.TheVariants as e;
 ghost use Rattle.lrc_meaning.specs.Naming.{occurrence_number, or_leaf, named_expr, each_some};
-ghost use Rattle.lrc_naming.specs.Called.{IsCounted};
+ghost use Rattle.lrc_naming.specs.Counted.{IsCounted};
 ghost use Rattle.lrc_naming.specs.Names.{Names};
 
 use crate::fault::NamingFault;

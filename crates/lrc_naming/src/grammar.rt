@@ -1,7 +1,7 @@
 ghost use Rattle.std.specs.Prelude.{◌<◌, ◌≤◌, ◌^◌, length, map, All, IfOk};
 ghost use Rattle.lrc_meaning.specs.Naming.{named_sort, named_production, named_grammar, each_some};
 ghost use Rattle.lrc_meaning.specs.Limits.{KeepsLimits};
-ghost use Rattle.lrc_naming.specs.Called.{HasFewAttrs};
+ghost use Rattle.lrc_naming.specs.Counted.{HasFewAttrs};
 ghost use Rattle.lrc_naming.specs.Names.{Names, NamesAs};
 ghost use Rattle.lrc_naming.specs.Numbered.{grammar};
 

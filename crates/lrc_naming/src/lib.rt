@@ -18,4 +18,3 @@ mod written;
 pub use fault::NamingFault;
 pub use grammar::{Numbered, named_grammar};
 pub use number::production_number;
-pub use occurrence::{OccurrenceName, called_occurrences};

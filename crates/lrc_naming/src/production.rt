@@ -1,22 +1,22 @@
 ghost use Rattle.std.specs.Prelude.{◌≡◌, ◌≤◌, length, All};
 ghost use Rattle.lrc_meaning.specs.Limits.{KeepsLimits};
 ghost use Rattle.lrc_meaning.specs.Naming.{named_with, named_production};
-ghost use Rattle.lrc_naming.specs.Called.{HasFewAttrs, HasFewParts};
+ghost use Rattle.lrc_naming.specs.Counted.{HasFewAttrs, HasFewParts};
 ghost use Rattle.lrc_naming.specs.Names.{Names};
 
 use crate::equation::named_equations;
 use crate::extra::named_extras;
 use crate::fault::NamingFault;
 use crate::kind::{named_kids, sort_number};
-use crate::occurrence::called_occurrences;
 use crate::pattern::named_pattern;
 use crate::scope::Scope;
 use lrc_base::limits::{CHILD_LIMIT, LOCAL_LIMIT, PRODUCTION_LIMIT};
 use lrc_base::{Extra, Kid, List, Production, RawGrammar, RawProd, Sort};
+use lrc_grammar::occurrences_and_symbols;
 use std::alloc::Global;
 
 /// The production whose left sort, children, locals and nonterminal attributes are known.
-#[tactic(auto, using(crate::proofs::OccurrenceLemmas::occurrence_bounds))]
+#[tactic(auto, using(crate::proofs::CountLemmas::occurrence_bounds))]
 fn named_with(
     alloc: Global,
     raw: &[RawProd],
@@ -32,7 +32,13 @@ fn named_with(
     requires extras { length extras ≤ LOCAL_LIMIT }
     ensures { Names result (named_with raw.now sorts.now prod.now left kids extras) }
 {
-    let occurrences = called_occurrences(alloc, sorts, left, kids.as_slice(), extras.as_slice())?;
+    let (occurrences, _symbols) = occurrences_and_symbols(
+        alloc,
+        sorts,
+        left,
+        kids.as_slice(),
+        extras.as_slice(),
+    )?;
     let scope = Scope {
         prods: raw,
         occurrences: occurrences.as_slice(),

@@ -2,8 +2,8 @@ use Rattle.std.proofs.Common.{◌≤◌, length, All, subst, sym, arith}
 use Rattle.lrc_base.specs.declared.limits.TheConstants.{ATTRIBUTE_LIMIT}
 use Rattle.lrc_base.specs.declared.raw.RawSort.{RawSort}
 use Rattle.lrc_meaning.specs.Naming.{named_production}
-use Rattle.lrc_naming.specs.Called.{HasFewAttrs}
-use Rattle.lrc_naming.proofs.OccurrenceLemmas.{named_sorts-few, length-named}
+use Rattle.lrc_naming.specs.Counted.{HasFewAttrs}
+use Rattle.lrc_naming.proofs.CountLemmas.{named_sorts-few, length-named}
 use Rattle.lrc_naming.proofs.grammar.named_grammar.Goals as goal
 
 pub named_productions-requires-clause-attrs : goal.named_productions-requires-clause-attrs

@@ -1,7 +1,7 @@
 use Rattle.std.proofs.Common.{◌≡◌, length, map, Some, arith, ap, sym, subst, ◌∙◌}
 use Rattle.lrc_meaning.specs.Naming.{each_some, sort_number, named_kid, named_extras, named_with}
 use Rattle.lrc_naming.specs.Names.{Names}
-use Rattle.lrc_naming.proofs.OccurrenceLemmas.{length-named, length-named_extras}
+use Rattle.lrc_naming.proofs.CountLemmas.{length-named, length-named_extras}
 use Rattle.lrc_naming.proofs.ProductionLemmas.{named_by_parts}
 use Rattle.lrc_naming.proofs.production.named_production.Goals as goal
 
