@@ -18,3 +18,4 @@ mod written;
 pub use fault::NamingFault;
 pub use grammar::{Numbered, named_grammar};
 pub use number::production_number;
+pub use occurrence::same_owner;
