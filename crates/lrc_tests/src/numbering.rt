@@ -2,7 +2,7 @@
 
 use crate::jobs::SUMS;
 use lrc_base::{Expr, Op, Piece};
-use lrc_naming::{Numbered, named_grammar};
+use lrc_naming::{NamingFault, Numbered, named_grammar};
 use lrc_reader::read_job;
 use std::alloc::Global;
 use std::test::Fail;
@@ -17,6 +17,13 @@ prod Twice: S (n: Int) {
   value = if true then twice else n;
   text \"<\" n;
 }
+start S;
+";
+
+/// Nothing is called `m`.
+const UNKNOWN: &[u8] = b"lrc 1
+sort S { syn value: Int; }
+prod Num: S (n: Int) { value = m; }
 start S;
 ";
 
@@ -65,5 +72,13 @@ fn locals_attached_trees_and_patterns_are_numbered(rt: HostRuntime) -> Result<()
         Some(pieces) => assert!(rt; matches!(pieces.get(1), Some(Piece::Kid(0)))),
         None => panic!(rt; "a pattern"),
     }
+    Ok(())
+}
+
+#[test]
+fn an_unknown_name_has_no_number(rt: HostRuntime) -> Result<(), Fail> {
+    let job = read_job(rt.alloc(), UNKNOWN)?;
+    let named = named_grammar(rt.alloc(), &job.grammar);
+    assert!(rt; matches!(named, Err(NamingFault::Unnamed)));
     Ok(())
 }
