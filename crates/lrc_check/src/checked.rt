@@ -7,10 +7,10 @@ ghost use Rattle.lrc_check.specs.Verdict.{answered, no_memory};
 
 use crate::fault::GrammarFault;
 use crate::first::first_fault;
-use lrc_base::{Memory, RawGrammar};
+use lrc_base::{AllocError, Memory, RawGrammar};
 use lrc_fault_laws::no_fault_is_well_formed;
 use lrc_grammar::Grammar;
-use lrc_naming::named_grammar;
+use lrc_naming::{NamingFault, named_grammar};
 use std::alloc::Global;
 
 /// The grammar that is written, where it has no fault.
@@ -20,9 +20,10 @@ fn faultless(alloc: Global, raw: &RawGrammar) -> Result<Grammar, Memory>
     ensures { IfOk result (λ g. named_grammar raw.now ≡ Some (grammar_of g)) }
 {
     no_fault_is_well_formed();
-    match named_grammar(alloc, raw)? {
-        Some(numbered) => { Grammar::of(alloc, numbered.sorts, numbered.prods, numbered.start) }
-        None => unreachable!(),
+    match named_grammar(alloc, raw) {
+        Ok(numbered) => Grammar::of(alloc, numbered.sorts, numbered.prods, numbered.start),
+        Err(NamingFault::Memory) => Err(AllocError),
+        Err(NamingFault::Unnamed) => unreachable!(),
     }
 }
 

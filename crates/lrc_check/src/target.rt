@@ -1,8 +1,8 @@
 ghost use Rattle.std.specs.Prelude.{◌≡◌};
-ghost use Rattle.lrc_meaning.specs.Naming.{same_owner};
 ghost use Rattle.lrc_fault_meaning.specs.Faults.{same_target};
 
 use lrc_base::NameText;
+use lrc_naming::same_owner;
 use std::marker::Model;
 
 /// The target of an equation: an attribute of a symbol, or of the left side where no symbol is told,
@@ -19,16 +19,6 @@ impl Model for Target {
     ghost Value = { faults.Target };
 
     ghost view = { λ t. record { owner = t.owner; name = t.name } };
-}
-
-fn same_owner(left: Option<NameText>, right: Option<NameText>) -> bool
-    ensures { result ≡ same_owner left right }
-{
-    match (left, right) {
-        (None, None) => true,
-        (Some(a), Some(b)) => a == b,
-        (None, Some(_)) | (Some(_), None) => false,
-    }
 }
 
 impl Target {

@@ -31,7 +31,7 @@ use Rattle.lrc_fault_laws.proofs.Heads.{declared_in, declared_kind, Head}
 use Rattle.lrc_fault_laws.proofs.Patterns.{AtMostOne}
 use Rattle.lrc_fault_laws.proofs.Places.{Place, own_place, symbol_place, value_place, kid_places, declared_places, places_of, is_at, target_at}
 use Rattle.lrc_fault_laws.proofs.Meanings.{alone, of_symbol, alone_place, find_alone, lefts, rights}
-use Rattle.lrc_fault_laws.proofs.Occurrences.{Stands, stand, all_called, occurrence_at}
+use Rattle.lrc_fault_laws.proofs.Occurrences.{Stands, stand, all_signed, occurrence_at}
 use Rattle.lrc_fault_laws.proofs.Distinct.{one_target, number_is, places_apart}
 use Rattle.lrc_fault_laws.proofs.Equations.{RawEquation, raw_equations, names, named_raw, RightAt, DefinesLeft, means_declared}
 
@@ -147,7 +147,7 @@ module _ (g : RawGrammar) (sorts : List Sort) (named : Each (Names (named_sort g
   IsOnce x = is_once x ≡ true
 
   target_number : (r : RawEquation) (q : Equation) → named_raw g sorts named p P head prods made r ≡ Some q → number (is_at r.target) all_places ≡ Some q.target
-  target_number r q e = sym (occurrence_at g.sorts sorts named p P head r.target) ∙ by (named_expr (names g sorts named p P head prods made) r.expr) (occurrence_number (all_called g.sorts sorts named p P head) r.target.owner r.target.name) e
+  target_number r q e = sym (occurrence_at g.sorts sorts named p P head r.target) ∙ by (named_expr (names g sorts named p P head prods made) r.expr) (occurrence_number (all_signed g.sorts sorts named p P head) r.target.owner r.target.name) e
     where
       by : (z : Option Expr) (o : Option ℕ) → option_and_then (λ target. option_map (λ y. record { target = target; expr = y }) z) o ≡ Some q → o ≡ Some q.target
       by z None h = absurd (cc)

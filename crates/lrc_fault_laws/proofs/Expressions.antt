@@ -33,7 +33,7 @@ use Rattle.lrc_fault_laws.proofs.Sorts.{IsKind, same_kinds}
 use Rattle.lrc_fault_laws.proofs.Heads.{IsKid, are_kids, Head}
 use Rattle.lrc_fault_laws.proofs.Places.{Place, own_place, symbol_place, value_place, places_of, is_at}
 use Rattle.lrc_fault_laws.proofs.Meanings.{alone, of_symbol, alone_place, symbol_place_of, find_alone, find_symbol}
-use Rattle.lrc_fault_laws.proofs.Occurrences.{Stands, all_called, occurrence_at, target_found, LeafAt, leaf_of_name}
+use Rattle.lrc_fault_laws.proofs.Occurrences.{Stands, all_signed, occurrence_at, target_found, LeafAt, leaf_of_name}
 
 -- ---- induction, variant by variant
 
@@ -131,7 +131,7 @@ none_right o.Less u = refl
 
 module _ (g : RawGrammar) (sorts : List Sort) (named : Each (Names (named_sort g.sorts)) g.sorts sorts) (p : RawProd) (P : Production) (head : Head g.sorts p P.left P.kids P.extras) (prods : List Production) (made : Each (λ q Q. Head g.sorts q Q.left Q.kids Q.extras) g.prods prods) where
   abbrev pub known : Known
-  known = record { prods = g.prods; occurrences = all_called g.sorts sorts named p P head; kids = P.kids }
+  known = record { prods = g.prods; occurrences = all_signed g.sorts sorts named p P head; kids = P.kids }
 
   abbrev pub kind_in : Expression → Option Kind
   kind_in = expression_kind prods (occurrences_of sorts P) P.kids

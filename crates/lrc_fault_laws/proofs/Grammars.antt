@@ -17,6 +17,7 @@ use Rattle.lrc_meaning.specs.Tree.{is_sort}
 use Rattle.lrc_meaning.specs.Grammar.{Grammar, attrs_of_sort, occurrences_of, all_distinct, is_known, names_of, is_sort_right, is_equation_right, is_defined_once, is_piece_right, is_production_right, is_start_right, is_well_formed}
 use Rattle.lrc_meaning.specs.Naming.{each_some, sort_number, named_sort, named_production, named_grammar}
 use Rattle.lrc_fault_meaning.specs.Faults.{Name, Fault, fault, twice, unknown, start_inherits, where_true, is_among, attrs_named, sort_faults, kid_faults, head_faults, first_inherited, start_faults, declaration_faults, body_faults, each_after, faults, first, first_fault}
+use Rattle.lrc_meaning.proofs.NamedLemmas.{named_parts, named_whole}
 use Rattle.lrc_fault_laws.specs.Laws.{NoFaultIsNamed, NamedHasNoFault}
 use Rattle.lrc_fault_laws.proofs.Lists.{Every, every_from, every_with, every_has, every_passes, all_pass, Each, each_map, each_right, each_left, each_with, each_with_right, each_named, named_each, Names, After, none_after, after_none, after_from, after_both, every_of_after, after_of_every, empty_parts, empty_both, empty_each, each_empty, none_where, where_none, first_none}
 use Rattle.lrc_fault_laws.proofs.Names.{IsNew, new_distinct, distinct_new}
@@ -24,7 +25,7 @@ use Rattle.lrc_fault_laws.proofs.Sorts.{SortsRight, sorts_right, sorts_faultless
 use Rattle.lrc_fault_laws.proofs.Heads.{Head, Declares, declares, declaration_faultless, head_right, head_kids, head_declares}
 use Rattle.lrc_fault_laws.proofs.Patterns.{IsFirstPattern, pattern_was_right}
 use Rattle.lrc_fault_laws.proofs.Heads.{are_kids}
-use Rattle.lrc_fault_laws.proofs.Productions.{named_parts, named_whole, names_same, left_within, kids_known, extras_right, body_named, body_right, body_faultless}
+use Rattle.lrc_fault_laws.proofs.Productions.{names_same, left_within, kids_known, extras_right, body_named, body_right, body_faultless}
 
 -- ---- the parts of the list of faults
 

@@ -169,21 +169,18 @@ module _ {A B C D : Type 0} (R : A → B → Type 0) (S : C → D → Type 0) wh
   each_flat f g h (x ∷ xs) [] k = absurd k
   each_flat f g h (x ∷ xs) (y ∷ ys) k = each_both S (f x) (g y) (flat_map f xs) (flat_map g ys) (h x y k.0) (each_flat f g h xs ys k.1)
 
+-- what is told of each item on the right stands so too
+pub each_told : {A B C : Type 0} (R : A → B → Type 0) (S : A → C → Type 0) (f : B → C) → ((x : A) (y : B) → R x y → S x (f y)) → (xs : List A) (ys : List B) → Each R xs ys → Each S xs (map f ys)
+each_told R S f h [] [] k = tt
+each_told R S f h [] (y ∷ ys) k = absurd k
+each_told R S f h (x ∷ xs) [] k = absurd k
+each_told R S f h (x ∷ xs) (y ∷ ys) k = (h x y k.0, each_told R S f h xs ys k.1)
+
 pub number_each : {A B : Type 0} (R : A → B → Type 0) (p : A → Bool) (q : B → Bool) → ((x : A) (y : B) → R x y → q y ≡ p x) → (xs : List A) (ys : List B) → Each R xs ys → number q ys ≡ number p xs
 number_each R p q h [] [] k = refl
 number_each R p q h [] (y ∷ ys) k = absurd k
 number_each R p q h (x ∷ xs) [] k = absurd k
 number_each R p q h (x ∷ xs) (y ∷ ys) k = rw (h x y k.0, number_each R p q h xs ys k.1) refl
-
-pub each_is : {A B : Type 0} (f : A → B) (xs : List A) (ys : List B) → Each (λ x y. y ≡ f x) xs ys → ys ≡ map f xs
-each_is f [] [] h = refl
-each_is f [] (y ∷ ys) h = absurd h
-each_is f (x ∷ xs) [] h = absurd h
-each_is f (x ∷ xs) (y ∷ ys) h = ap₂ ◌∷◌ h.0 (each_is f xs ys h.1)
-
-pub number-map : {A B : Type 0} (p : B → Bool) (f : A → B) (xs : List A) → number p (map f xs) ≡ number (λ x. p (f x)) xs
-number-map p f [] = refl
-number-map p f (x ∷ xs) = ap (λ o. cond (p (f x)) (Some 0) (option_map suc o)) (number-map p f xs)
 
 module _ {A B : Type 0} (f : A → Option B) where
   abbrev pub Names : A → B → Type 0

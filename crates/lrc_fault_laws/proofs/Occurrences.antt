@@ -10,6 +10,7 @@ use Rattle.lrc_base.specs.declared.grammar.Sort.{Sort}
 use Rattle.lrc_base.specs.declared.grammar.Kid.{Kid}
 use Rattle.lrc_base.specs.declared.grammar.Extra.{Extra}
 use Rattle.lrc_base.specs.declared.grammar.Production.{Production}
+use Rattle.lrc_base.specs.declared.signature.Occurrence as signature
 use Rattle.lrc_base.specs.declared.raw.RawKind.{RawKind}
 use Rattle.lrc_base.specs.declared.raw.RawKind.TheVariants as rk
 use Rattle.lrc_base.specs.declared.raw.RawAttr.{RawAttr}
@@ -17,10 +18,12 @@ use Rattle.lrc_base.specs.declared.raw.RawSort.{RawSort}
 use Rattle.lrc_base.specs.declared.raw.RawKid.{RawKid}
 use Rattle.lrc_base.specs.declared.raw.RawProd.{RawProd}
 use Rattle.lrc_meaning.specs.Tree.{is_sort}
-use Rattle.lrc_meaning.specs.Grammar.{attrs_of_sort, attrs_of, Occurrence, own_occurrence, symbol_occurrence, extra_occurrences, occurrences_of, leaf_kind, all_distinct}
-use Rattle.lrc_meaning.specs.Naming.{named_kind, named_sort, Called, called_own, called_of, called_extra, called_occurrences, is_called, occurrence_number, leaf_number}
+use Rattle.lrc_meaning.specs.Grammar.{attrs_of_sort, attrs_of, Occurrence, occurrences_of, leaf_kind, all_distinct}
+use Rattle.lrc_meaning.specs.Naming.{named_kind, named_sort, is_called, occurrence_number, leaf_number}
+use Rattle.lrc_meaning.specs.Signature.{left_attribute, symbol_attribute, symbol_attributes, kid_attributes, extra_attributes, signed_occurrences, role_of}
+use Rattle.lrc_meaning.proofs.SignatureLemmas.{signed_roles}
 use Rattle.lrc_fault_meaning.specs.Faults.{Name, is_among, attrs_named, attrs_of_kind, kid_names, Declared, local, attached, declared_name, Means, nothing, left_attr, leaf, symbol, value, tree, means, left_or_other, kid_means, kid_or_declared, Target}
-use Rattle.lrc_fault_laws.proofs.Lists.{number, number-map, number_each, position-number, Each, each_both, each_mapped, each_flat, each_is, Names, FoundAt, absent, there, found_at}
+use Rattle.lrc_fault_laws.proofs.Lists.{number, number_each, position-number, Each, each_both, each_mapped, each_flat, each_told, Names, FoundAt, absent, there, found_at}
 use Rattle.lrc_fault_laws.proofs.Names.{same_name, distinct_parts, called, name_absent}
 use Rattle.lrc_fault_laws.proofs.Sorts.{IsKind, IsAttr, is_given, is_that_sort, attrs_at, attrs_at_kind}
 use Rattle.lrc_fault_laws.proofs.Heads.{declared_kind, is_attached, declared_in, IsKid, IsExtra, are_kids, are_extras, Head}
@@ -31,11 +34,11 @@ pub record Stands (raw : List RawSort) (x : Place) (o : Occurrence) : Type 0 whe
   pub is_defined : o.is_defined ≡ x.is_defined
   pub is_read : o.is_read ≡ x.is_read
 
-abbrev pub called_at : Place → Called
-called_at x = record { owner = x.owner; called = x.name }
-
-abbrev IsCalled : Place → Called → Type 0
-IsCalled x c = c ≡ called_at x
+-- an occurrence of a signature that stands at a place, and is called so
+pub record IsSigned (raw : List RawSort) (x : Place) (o : signature.Occurrence) : Type 0 where
+  pub owner : o.owner ≡ x.owner
+  pub name : o.name ≡ x.name
+  pub stands : Stands raw x (role_of o)
 
 abbrev pub is_leaf : RawKind → Bool
 is_leaf rk.Int = true
@@ -53,51 +56,46 @@ module _ (raw : List RawSort) (sorts : List Sort) (named : Each (Names (named_so
   extras : Each (IsExtra raw) (declared_in p.items) P.extras
   extras = are_extras raw p.items P.extras head.of_extras
 
-  -- ---- what stands at each place
+  -- ---- what stands at each place, and what it is called
 
-  stands_own : (a : RawAttr) (b : Attr) → IsAttr raw a b → Stands raw (own_place a) (own_occurrence b)
-  stands_own a b h = record { kind = h.kind; is_defined = ap not h.inherited; is_read = h.inherited }
+  signed_own : (a : RawAttr) (b : Attr) → IsAttr raw a b → IsSigned raw (own_place a) (left_attribute b)
+  signed_own a b h = record {
+    owner = refl;
+    name = h.name;
+    stands = record { kind = h.kind; is_defined = ap not h.inherited; is_read = h.inherited };
+  }
 
-  stands_symbol : (c : Name) (a : RawAttr) (b : Attr) → IsAttr raw a b → Stands raw (symbol_place c a) (symbol_occurrence b)
-  stands_symbol c a b h = record { kind = h.kind; is_defined = h.inherited; is_read = ap not h.inherited }
+  signed_symbol : (c d : Name) → d ≡ c → (a : RawAttr) (b : Attr) → IsAttr raw a b → IsSigned raw (symbol_place c a) (symbol_attribute d b)
+  signed_symbol c d e a b h = record {
+    owner = ap (λ n. Some n) e;
+    name = h.name;
+    stands = record { kind = h.kind; is_defined = h.inherited; is_read = ap not h.inherited };
+  }
 
-  stand_symbols : (c : Name) (x : RawKind) (y : Kind) → IsKind raw x y → Each (Stands raw) (map (symbol_place c) (attrs_of_kind raw x)) (map symbol_occurrence (attrs_of sorts y))
-  stand_symbols c x y h = each_mapped (IsAttr raw) (Stands raw) (symbol_place c) symbol_occurrence (stands_symbol c) (attrs_of_kind raw x) (attrs_of sorts y) (attrs_at_kind raw sorts named x y h)
+  signed_symbols : (c d : Name) → d ≡ c → (x : RawKind) (y : Kind) → IsKind raw x y → Each (IsSigned raw) (map (symbol_place c) (attrs_of_kind raw x)) (symbol_attributes sorts d y)
+  signed_symbols c d e x y h = each_mapped (IsAttr raw) (IsSigned raw) (symbol_place c) (symbol_attribute d) (signed_symbol c d e) (attrs_of_kind raw x) (attrs_of sorts y) (attrs_at_kind raw sorts named x y h)
 
-  stand_declared : (d : Declared) (x : Extra) → IsExtra raw d x → Each (Stands raw) (declared_places raw d) (extra_occurrences sorts x)
-  stand_declared d x h = rw (h.attached) (record { kind = h.kind; is_defined = refl; is_read = refl }, by (is_attached d))
+  signed_declared : (d : Declared) (x : Extra) → IsExtra raw d x → Each (IsSigned raw) (declared_places raw d) (extra_attributes sorts x)
+  signed_declared d x h = rw (h.attached) (record { owner = refl; name = h.name; stands = record { kind = h.kind; is_defined = refl; is_read = refl } }, by (is_attached d))
     where
-      by : (b : Bool) → Each (Stands raw) (cond b (map (symbol_place (declared_name d)) (attrs_of_kind raw (declared_kind d))) []) (cond b (map symbol_occurrence (attrs_of sorts x.kind)) [])
-      by true = stand_symbols (declared_name d) (declared_kind d) x.kind h.kind
+      by : (b : Bool) → Each (IsSigned raw) (cond b (map (symbol_place (declared_name d)) (attrs_of_kind raw (declared_kind d))) []) (cond b (symbol_attributes sorts x.name x.kind) [])
+      by true = signed_symbols (declared_name d) x.name h.name (declared_kind d) x.kind h.kind
       by false = tt
+
+  abbrev pub all_signed : List signature.Occurrence
+  all_signed = signed_occurrences sorts P.left P.kids P.extras
+
+  signed : Each (IsSigned raw) (places_of raw p) all_signed
+  signed =
+      each_both (IsSigned raw) (map own_place (attrs_named raw p.left)) (map left_attribute (attrs_of_sort sorts P.left)) (flat_map (kid_places raw) p.kids ++ flat_map (declared_places raw) (declared_in p.items)) (flat_map (kid_attributes sorts) P.kids ++ flat_map (extra_attributes sorts) P.extras) (each_mapped (IsAttr raw) (IsSigned raw) own_place left_attribute signed_own (attrs_named raw p.left) (attrs_of_sort sorts P.left) left_attrs) (each_both (IsSigned raw) (flat_map (kid_places raw) p.kids) (flat_map (kid_attributes sorts) P.kids) (flat_map (declared_places raw) (declared_in p.items)) (flat_map (extra_attributes sorts) P.extras) (each_flat (IsKid raw) (IsSigned raw) (kid_places raw) (kid_attributes sorts) (λ a b h. signed_symbols a.name b.name h.name a.kind b.kind h.kind) p.kids P.kids kids) (each_flat (IsExtra raw) (IsSigned raw) (declared_places raw) (extra_attributes sorts) signed_declared (declared_in p.items) P.extras extras))
 
   pub stand : Each (Stands raw) (places_of raw p) (occurrences_of sorts P)
-  stand =
-      each_both (Stands raw) (map own_place (attrs_named raw p.left)) (map own_occurrence (attrs_of_sort sorts P.left)) (flat_map (kid_places raw) p.kids ++ flat_map (declared_places raw) (declared_in p.items)) (flat_map (λ (kid : Kid). map symbol_occurrence (attrs_of sorts kid.kind)) P.kids ++ flat_map (extra_occurrences sorts) P.extras) (each_mapped (IsAttr raw) (Stands raw) own_place own_occurrence stands_own (attrs_named raw p.left) (attrs_of_sort sorts P.left) left_attrs) (each_both (Stands raw) (flat_map (kid_places raw) p.kids) (flat_map (λ (kid : Kid). map symbol_occurrence (attrs_of sorts kid.kind)) P.kids) (flat_map (declared_places raw) (declared_in p.items)) (flat_map (extra_occurrences sorts) P.extras) (each_flat (IsKid raw) (Stands raw) (kid_places raw) (λ (kid : Kid). map symbol_occurrence (attrs_of sorts kid.kind)) (λ a b h. stand_symbols a.name a.kind b.kind h.kind) p.kids P.kids kids) (each_flat (IsExtra raw) (Stands raw) (declared_places raw) (extra_occurrences sorts) stand_declared (declared_in p.items) P.extras extras))
+  stand = subst (Each (Stands raw) (places_of raw p)) (signed_roles sorts P) (each_told (IsSigned raw) (Stands raw) role_of (λ x o h. h.stands) (places_of raw p) all_signed signed)
 
-  -- ---- what each place is called
-
-  called_symbols : (c d : Name) → d ≡ c → (x : RawKind) (y : Kind) → IsKind raw x y → Each IsCalled (map (symbol_place c) (attrs_of_kind raw x)) (map (called_of d) (attrs_of sorts y))
-  called_symbols c d e x y h = each_mapped (IsAttr raw) IsCalled (symbol_place c) (called_of d) (λ a b i. rw (e, i.name) refl) (attrs_of_kind raw x) (attrs_of sorts y) (attrs_at_kind raw sorts named x y h)
-
-  called_declared : (d : Declared) (x : Extra) → IsExtra raw d x → Each IsCalled (declared_places raw d) (called_extra sorts x)
-  called_declared d x h = rw (h.attached) (rw (h.name) refl, by (is_attached d))
-    where
-      by : (b : Bool) → Each IsCalled (cond b (map (symbol_place (declared_name d)) (attrs_of_kind raw (declared_kind d))) []) (cond b (map (called_of x.name) (attrs_of sorts x.kind)) [])
-      by true = called_symbols (declared_name d) x.name h.name (declared_kind d) x.kind h.kind
-      by false = tt
-
-  abbrev pub all_called : List Called
-  all_called = called_occurrences sorts P.left P.kids P.extras
-
-  called_places : all_called ≡ map called_at (places_of raw p)
-  called_places = each_is called_at (places_of raw p) all_called (
-      each_both IsCalled (map own_place (attrs_named raw p.left)) (map called_own (attrs_of_sort sorts P.left)) (flat_map (kid_places raw) p.kids ++ flat_map (declared_places raw) (declared_in p.items)) (flat_map (λ (kid : Kid). map (called_of kid.name) (attrs_of sorts kid.kind)) P.kids ++ flat_map (called_extra sorts) P.extras) (each_mapped (IsAttr raw) IsCalled own_place called_own (λ a b h. rw (h.name) refl) (attrs_named raw p.left) (attrs_of_sort sorts P.left) left_attrs) (each_both IsCalled (flat_map (kid_places raw) p.kids) (flat_map (λ (kid : Kid). map (called_of kid.name) (attrs_of sorts kid.kind)) P.kids) (flat_map (declared_places raw) (declared_in p.items)) (flat_map (called_extra sorts) P.extras) (each_flat (IsKid raw) IsCalled (kid_places raw) (λ (kid : Kid). map (called_of kid.name) (attrs_of sorts kid.kind)) (λ a b h. called_symbols a.name b.name h.name a.kind b.kind h.kind) p.kids P.kids kids) (each_flat (IsExtra raw) IsCalled (declared_places raw) (called_extra sorts) called_declared (declared_in p.items) P.extras extras)))
-
-  pub occurrence_at : (t : Target) → occurrence_number all_called t.owner t.name ≡ number (is_at t) (places_of raw p)
+  pub occurrence_at : (t : Target) → occurrence_number all_signed t.owner t.name ≡ number (is_at t) (places_of raw p)
   occurrence_at t =
-      position-number (is_called t.owner t.name) all_called
-      ∙ (ap (number (is_called t.owner t.name)) called_places ∙ number-map (is_called t.owner t.name) called_at (places_of raw p))
+      position-number (is_called t.owner t.name) all_signed
+      ∙ number_each (IsSigned raw) (is_at t) (is_called t.owner t.name) (λ x o h. rw (h.owner, h.name) refl) (places_of raw p) all_signed signed
 
   pub target_found : (t : Target) → FoundAt (Stands raw) (is_at t) (places_of raw p) (occurrences_of sorts P)
   target_found t = found_at (Stands raw) (is_at t) (places_of raw p) (occurrences_of sorts P) stand

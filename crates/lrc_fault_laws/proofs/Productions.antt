@@ -1,10 +1,8 @@
 -- A production has no fault exactly where it is named and is right by number.
-use Rattle.std.proofs.Common.{◌≡◌, ℕ, true, not, ◌&&◌, ◌||◌, List, [], ◌∷◌, ◌++◌, map, flat_map, length, Option, Some, None, nat_lt, refl, sym, ap, ap₂, ◌∙◌, subst, lt-ltb}
-use Rattle.std.specs.Prelude.{option_map, option_and_then}
+use Rattle.std.proofs.Common.{◌≡◌, true, not, ◌&&◌, ◌||◌, List, [], ◌∷◌, ◌++◌, map, flat_map, length, Option, Some, nat_lt, refl, sym, ap, ap₂, ◌∙◌, subst, lt-ltb}
 use Rattle.std.specs.Option.{option_map_or}
 use Rattle.std.specs.List.{list_all}
 use Rattle.std.proofs.lemmas.Bool.{and_from}
-use Rattle.std.proofs.lemmas.Option.{option_and_then_some}
 use Rattle.lrc_base.specs.declared.grammar.Attr.{Attr}
 use Rattle.lrc_base.specs.declared.grammar.Sort.{Sort}
 use Rattle.lrc_base.specs.declared.grammar.Kid.{Kid}
@@ -20,7 +18,8 @@ use Rattle.lrc_base.specs.declared.raw.RawProd.{RawProd}
 use Rattle.lrc_base.specs.declared.raw.RawGrammar.{RawGrammar}
 use Rattle.lrc_meaning.specs.Tree.{is_sort}
 use Rattle.lrc_meaning.specs.Grammar.{attrs_of_sort, occurrences_of, is_known, names_of, is_equation_right, is_defined_once, is_piece_right}
-use Rattle.lrc_meaning.specs.Naming.{Known, each_some, sort_number, named_kid, named_extras, called_occurrences, named_equations, pattern_of, named_pattern, named_with, named_production}
+use Rattle.lrc_meaning.specs.Naming.{each_some, sort_number, named_kid, named_extras, named_equations, pattern_of, named_pattern}
+use Rattle.lrc_meaning.proofs.NamedLemmas.{known_to}
 use Rattle.lrc_fault_meaning.specs.Faults.{attrs_named, Declared, local, attached, declared_name, body_faults, item_faults, piece_faults, missing, each_after}
 use Rattle.lrc_fault_laws.proofs.Lists.{Every, every_from, every_middle, every_flat, every_of_flat, every_has, every_passes, all_pass, Each, each_map, each_gives_right, each_right, each_left, each_named, named_each, Names, After, none_after, after_none, after_from, after_of_whole, every_of_after, empty_parts, empty_both}
 use Rattle.lrc_fault_laws.proofs.Sorts.{SortsRight, IsAttr, attrs_at, kind_is_known, is_that_sort}
@@ -31,36 +30,6 @@ use Rattle.lrc_fault_laws.proofs.Equations.{RawEquation, raw_equations, named_ra
 use Rattle.lrc_fault_laws.proofs.Counts.{IsNewTarget, IsOnce, is_once, once_same, all_once, none_missing, once_item}
 
 module _ (g : RawGrammar) (sorts : List Sort) where
-  abbrev pub known_to : Production → Known
-  known_to P = record { prods = g.prods; occurrences = called_occurrences sorts P.left P.kids P.extras; kids = P.kids }
-
-  pub record IsNamed (p : RawProd) (P : Production) : Type 0 where
-    pub of_name : P.name ≡ p.name
-    pub of_left : sort_number g.sorts p.left ≡ Some P.left
-    pub of_kids : each_some (map (named_kid g.sorts) p.kids) ≡ Some P.kids
-    pub of_extras : named_extras g.sorts p.items ≡ Some P.extras
-    pub of_equations : named_equations (known_to P) p.items ≡ Some P.equations
-    pub of_pattern : named_pattern P.kids p.items ≡ Some P.pattern
-
-  abbrev finished : RawProd → ℕ → List Kid → List Extra → List Equation → Option (List Piece) → Production
-  finished p left kids extras equations pattern =
-      record { name = p.name; left = left; kids = kids; extras = extras; equations = equations; pattern = pattern }
-
-  named_last : (p : RawProd) (P : Production) (left : ℕ) (kids : List Kid) (extras : List Extra) (equations : List Equation) (o : Option (Option (List Piece))) → sort_number g.sorts p.left ≡ Some left → each_some (map (named_kid g.sorts) p.kids) ≡ Some kids → named_extras g.sorts p.items ≡ Some extras → named_equations (record { prods = g.prods; occurrences = called_occurrences sorts left kids extras; kids = kids }) p.items ≡ Some equations → named_pattern kids p.items ≡ o → option_map (finished p left kids extras equations) o ≡ Some P →
-      IsNamed p P
-  named_last p P left kids extras equations None el ek ex eq ep e = absurd (cc)
-  named_last p P left kids extras equations (Some pattern) el ek ex eq ep e =
-      let same : finished p left kids extras equations pattern ≡ P = cc in
-      subst (IsNamed p) same (record { of_name = refl; of_left = el; of_kids = ek; of_extras = ex; of_equations = eq; of_pattern = ep })
-
-  pub named_parts : (p : RawProd) (P : Production) → named_production g sorts p ≡ Some P → IsNamed p P
-  named_parts p P e =
-      option_and_then_some (λ left. option_and_then (λ kids. option_and_then (named_with g.prods sorts p left kids) (named_extras g.sorts p.items)) (each_some (map (named_kid g.sorts) p.kids))) (sort_number g.sorts p.left) P e (λ left el h. option_and_then_some (λ kids. option_and_then (named_with g.prods sorts p left kids) (named_extras g.sorts p.items)) (each_some (map (named_kid g.sorts) p.kids)) P h (λ kids ek i. option_and_then_some (named_with g.prods sorts p left kids) (named_extras g.sorts p.items) P i (λ extras ex j. option_and_then_some (λ equations. option_map (finished p left kids extras equations) (named_pattern kids p.items)) (named_equations (record { prods = g.prods; occurrences = called_occurrences sorts left kids extras; kids = kids }) p.items) P j (λ equations eq l. named_last p P left kids extras equations (named_pattern kids p.items) el ek ex eq refl l))))
-
-  pub named_whole : (p : RawProd) (P : Production) → IsNamed p P → named_production g sorts p ≡ Some P
-  named_whole p P h =
-      rw (h.of_left, h.of_kids, h.of_extras, h.of_equations, h.of_pattern) (ap (λ n. Some (record P { name = n })) (sym h.of_name))
-
   -- ---- what is right of a head that is named
 
   module _ (r : SortsRight g.sorts sorts) (p : RawProd) (P : Production) (el : sort_number g.sorts p.left ≡ Some P.left) (ek : each_some (map (named_kid g.sorts) p.kids) ≡ Some P.kids) (ex : named_extras g.sorts p.items ≡ Some P.extras) where
@@ -114,7 +83,7 @@ module _ (g : RawGrammar) (sorts : List Sort) where
     all_right h =
         every_flat RightEquation raw_equations p.items (every_of_after (λ i. Every RightEquation (raw_equations i)) [] p.items (after_from p.items Right (λ b i. Every RightEquation (raw_equations i)) (λ b i rest w k. k.each) [] p.items refl h))
 
-    numbered : (qs : List Equation) → named_equations (known_to P) p.items ≡ Some qs → Each IsNumbered raw_all qs
+    numbered : (qs : List Equation) → named_equations (known_to g sorts P) p.items ≡ Some qs → Each IsNumbered raw_all qs
     numbered qs e =
         each_named (named_raw g sorts r.named p P head prods made) raw_all qs (ap each_some (sym (equations_named g sorts r.named p P head prods made p.items)) ∙ e)
 
@@ -127,7 +96,7 @@ module _ (g : RawGrammar) (sorts : List Sort) where
         every_flat AreKids pattern_of p.items (every_of_after (λ i. Every AreKids (pattern_of i)) [] p.items (after_from p.items Right (λ b i. Every AreKids (pattern_of i)) (λ b i rest w k. k.pieces) [] p.items refl h))
 
     -- a body without faults has equations and a pattern by number
-    pub body_named : (patterns : After IsFirstPattern [] p.items) → body_faults g p ≡ [] → ((qs : List Equation) × (named_equations (known_to P) p.items ≡ Some qs)) × ((o : Option (List Piece)) × (named_pattern P.kids p.items ≡ Some o))
+    pub body_named : (patterns : After IsFirstPattern [] p.items) → body_faults g p ≡ [] → ((qs : List Equation) × (named_equations (known_to g sorts P) p.items ≡ Some qs)) × ((o : Option (List Piece)) × (named_pattern P.kids p.items ≡ Some o))
     body_named patterns e =
         let parts = empty_parts (each_after (item_faults g p) [] p.items) (missing g.sorts p) e in
         let items = items_right parts.0 in
@@ -141,7 +110,7 @@ module _ (g : RawGrammar) (sorts : List Sort) where
       pub once : is_defined_once P (occurrences_of sorts P) ≡ true
       pub pattern : option_map_or (list_all (is_piece_right P)) P.pattern true ≡ true
 
-    pub body_right : named_equations (known_to P) p.items ≡ Some P.equations → named_pattern P.kids p.items ≡ Some P.pattern → After IsFirstPattern [] p.items → body_faults g p ≡ [] → BodyRight
+    pub body_right : named_equations (known_to g sorts P) p.items ≡ Some P.equations → named_pattern P.kids p.items ≡ Some P.pattern → After IsFirstPattern [] p.items → body_faults g p ≡ [] → BodyRight
     body_right eq ep patterns e =
         let parts = empty_parts (each_after (item_faults g p) [] p.items) (missing g.sorts p) e in
         let items = items_right parts.0 in
@@ -167,7 +136,7 @@ module _ (g : RawGrammar) (sorts : List Sort) where
             subst (λ o. option_map_or (list_all (is_piece_right P)) o true ≡ true) same (found.2 P refl)
 
     -- and back
-    pub body_faultless : named_equations (known_to P) p.items ≡ Some P.equations → named_pattern P.kids p.items ≡ Some P.pattern → BodyRight → body_faults g p ≡ []
+    pub body_faultless : named_equations (known_to g sorts P) p.items ≡ Some P.equations → named_pattern P.kids p.items ≡ Some P.pattern → BodyRight → body_faults g p ≡ []
     body_faultless eq ep h =
         let right = each_left IsNumbered RightEquation (λ q. is_equation_right sorts prods P q ≡ true) (named_right g sorts r.named p P head prods made) raw_all P.equations (numbered P.equations eq) (every_passes (is_equation_right sorts prods P) P.equations h.equations) in
         let once = every_passes (is_once g sorts r.named p P head prods made r.attrs) (places_of g.sorts p) (sym (once_same g sorts r.named p P head prods made r.attrs (numbered P.equations eq)) ∙ h.once) in

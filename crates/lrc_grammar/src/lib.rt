@@ -13,3 +13,4 @@ pub use fitting::{is_within, same_kind};
 pub use grammar::Grammar;
 pub use kinds::is_sort;
 pub use occurrences::{Occurrence, attrs_of, attrs_of_sort, occurrences_of};
+pub use signature::occurrences_and_symbols;

@@ -4,7 +4,7 @@ ghost use Rattle.lrc_base.specs.declared.limits.TheConstants.{ATTRIBUTE_LIMIT};
 ghost use Rattle.lrc_base.specs.declared.grammar.Sort as base-sort;
 ghost use Rattle.lrc_meaning.specs.Limits.{IsFew};
 ghost use Rattle.lrc_base.specs.declared.signature.Origin.TheVariants as origin;
-ghost use Rattle.lrc_meaning.specs.Signature.{left_attribute, symbol_attribute, attribute, kid_attributes, extra_attributes, signed_occurrences, signed_symbol, signed_kids, signed_extras, equation_of, signature_of};
+ghost use Rattle.lrc_meaning.specs.Signature.{left_attribute, symbol_attribute, attribute, kid_attributes, extra_attributes, signed_occurrences, signed_symbol, signed_kids, signed_extras, signed_symbols, equation_of, signature_of};
 
 use crate::occurrences::{attrs_of, attrs_of_sort};
 use lrc_base::{
@@ -205,12 +205,38 @@ fn equations_of(
     Ok(found)
 }
 
-/// The signature of a production.
+/// The occurrences and the symbols of a left side with these children, locals and nonterminal
+/// attributes, each by number.
 ///
 /// # Errors
 ///
 /// Want of memory.
 #[tactic(auto, using(crate::proofs::SignatureLemmas::signed_lengths))]
+pub fn occurrences_and_symbols(
+    alloc: Global,
+    sorts: &[Sort],
+    left: u32,
+    kids: &[Kid],
+    extras: &[Extra],
+) -> Result<(List<Occurrence>, List<Symbol>), Memory>
+    requires few { length (signed_occurrences sorts.now left kids.now extras.now) < 2 ^ 32 }
+    requires few_kids { length kids.now < 2 ^ 32 }
+    ensures occurrences { IfOk result (λ it. it.0 ≡ signed_occurrences sorts.now left kids.now extras.now) }
+    ensures symbols { IfOk result (λ it. it.1 ≡ signed_symbols sorts.now left kids.now extras.now) }
+{
+    let mut occurrences = List::new(alloc);
+    let mut symbols = List::new(alloc);
+    push_attributes(&mut occurrences, None, attrs_of_sort(sorts, left))?;
+    push_kids(&mut occurrences, &mut symbols, sorts, kids)?;
+    push_extras(&mut occurrences, &mut symbols, sorts, extras)?;
+    Ok((occurrences, symbols))
+}
+
+/// The signature of a production.
+///
+/// # Errors
+///
+/// Want of memory.
 pub fn signature_of(
     alloc: Global,
     sorts: &[Sort],
@@ -220,14 +246,18 @@ pub fn signature_of(
     requires few_kids { length production.now.kids < 2 ^ 32 }
     ensures { IfOk result (λ signature. signature ≡ signature_of sorts.now production.now) }
 {
-    let mut all = List::new(alloc);
-    let mut symbols = List::new(alloc);
-    push_attributes(&mut all, None, attrs_of_sort(sorts, production.left))?;
-    push_kids(&mut all, &mut symbols, sorts, production.kids.as_slice())?;
-    push_extras(&mut all, &mut symbols, sorts, production.extras.as_slice())?;
-    let equations = equations_of(alloc, production.equations.as_slice(), all.len())?;
+    let kids = production.kids.as_slice();
+    let extras = production.extras.as_slice();
+    let (occurrences, symbols) = occurrences_and_symbols(
+        alloc,
+        sorts,
+        production.left,
+        kids,
+        extras,
+    )?;
+    let equations = equations_of(alloc, production.equations.as_slice(), occurrences.len())?;
     Ok(Signature {
-        occurrences: all,
+        occurrences,
         equations,
         symbols,
     })

@@ -6,3 +6,4 @@ pub mod NodeLemmas
 pub mod KindLemmas
 pub mod EditLemmas
 pub mod SignatureLemmas
+pub mod NamedLemmas

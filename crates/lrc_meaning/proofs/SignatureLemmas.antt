@@ -10,9 +10,8 @@ use Rattle.lrc_base.specs.declared.grammar.Attr.{Attr}
 use Rattle.lrc_base.specs.declared.grammar.Sort.{Sort}
 use Rattle.lrc_base.specs.declared.grammar.Production.{Production}
 use Rattle.lrc_base.specs.declared.signature.Occurrence.{Occurrence}
-use Rattle.lrc_meaning.specs.Grammar.{attrs_of_sort, attrs_of, own_occurrence, symbol_occurrence, extra_occurrences, occurrences_of}
-use Rattle.lrc_meaning.specs.Naming.{called_own, called_of, called_extra, called_occurrences}
-use Rattle.lrc_meaning.specs.Signature.{left_attribute, symbol_attribute, symbol_attributes, kid_attributes, extra_value, extra_attributes, signed_occurrences, signature_of, role_of, called_as}
+use Rattle.lrc_meaning.specs.Grammar.{attrs_of_sort, attrs_of, occurrences_of}
+use Rattle.lrc_meaning.specs.Signature.{left_attribute, symbol_attribute, symbol_attributes, kid_attributes, extra_value, extra_attributes, signed_occurrences, signature_of, role_of}
 
 -- what is told of each occurrence is told part by part
 module _ {A : Type 0} (f : Occurrence → A) where
@@ -51,9 +50,6 @@ module _ {A : Type 0} (f : Occurrence → A) where
 
 pub signed_roles : (sorts : List Sort) (p : Production) → map role_of (signature_of sorts p).occurrences ≡ occurrences_of sorts p
 signed_roles sorts p = map-signed role_of sorts p.left p.kids p.extras
-
-pub signed_calls : (sorts : List Sort) (p : Production) → map called_as (signature_of sorts p).occurrences ≡ called_occurrences sorts p.left p.kids p.extras
-signed_calls sorts p = map-signed called_as sorts p.left p.kids p.extras
 
 -- as many occurrences as in any list of what is told of each
 pub signed_count : (sorts : List Sort) (p : Production) → length (signature_of sorts p).occurrences ≡ length (occurrences_of sorts p)

@@ -1,5 +1,5 @@
 -- From names to numbers: the grammar and the tree that are written.
-use Rattle.std.specs.Prelude.{ℕ, Bool, true, false, List, [], ◌∷◌, ◌++◌, map, flat_map, position, Option, Some, None, option_map, option_and_then, bytes_eq, ◌&&◌, cond}
+use Rattle.std.specs.Prelude.{◌≡◌, ℕ, Bool, true, false, List, [], ◌∷◌, map, flat_map, position, Option, Some, None, option_map, option_and_then, bytes_eq, ◌&&◌, cond}
 use Rattle.lrc_base.specs.declared.grammar.Kind.{Kind}
 use Rattle.lrc_base.specs.declared.grammar.Kind.TheVariants as k
 use Rattle.lrc_base.specs.declared.grammar.Attr.{Attr}
@@ -12,6 +12,7 @@ use Rattle.lrc_base.specs.declared.grammar.Piece.TheVariants as piece
 use Rattle.lrc_base.specs.declared.grammar.Production.{Production}
 use Rattle.lrc_base.specs.declared.expr.Expr.{Expr}
 use Rattle.lrc_base.specs.declared.expr.Expr.TheVariants as e
+use Rattle.lrc_base.specs.declared.signature.Occurrence.{Occurrence}
 use Rattle.lrc_base.specs.declared.raw.RawKind.{RawKind}
 use Rattle.lrc_base.specs.declared.raw.RawKind.TheVariants as rk
 use Rattle.lrc_base.specs.declared.raw.RawAttr.{RawAttr}
@@ -30,7 +31,8 @@ use Rattle.lrc_base.specs.declared.raw.RawTerm.{RawTerm}
 use Rattle.lrc_base.specs.declared.raw.RawTerm.TheOpen.{RawTerm-F}
 use Rattle.lrc_base.specs.declared.raw.RawTerm.TheFolds.{fold-RawTerm}
 use Rattle.lrc_meaning.specs.Tree.{Tree, int, bool, name, node, row, is_sort}
-use Rattle.lrc_meaning.specs.Grammar.{Grammar, attrs_of_sort, attrs_of}
+use Rattle.lrc_meaning.specs.Grammar.{Grammar}
+use Rattle.lrc_meaning.specs.Signature.{signed_occurrences, signature_of}
 
 -- each of a list, where there is each
 abbrev pub each_some : {A : Type 0} → List (Option A) → Option (List A)
@@ -73,40 +75,17 @@ named_extra sorts (item.Pattern pieces) = []
 abbrev pub named_extras : List RawSort → List RawItem → Option (List Extra)
 named_extras sorts items = each_some (flat_map (named_extra sorts) items)
 
--- what an occurrence is called: the symbol that it belongs to, none for the left side and for the value of a local or
--- nonterminal attribute, and the attribute
-pub record Called : Type 0 where
-  pub owner : Option (List ℕ)
-  pub called : List ℕ
-
-abbrev pub called_own : Attr → Called
-called_own a = record { owner = None; called = a.name }
-
-abbrev pub called_of : List ℕ → Attr → Called
-called_of owner a = record { owner = Some owner; called = a.name }
-
--- a value, and behind a nonterminal attribute's value the attributes of its tree
-abbrev pub called_extra : List Sort → Extra → List Called
-called_extra sorts x =
-    record { owner = None; called = x.name } ∷ cond x.attached (map (called_of x.name) (attrs_of sorts x.kind)) []
-
--- what the occurrences of a production are called, by number
-abbrev pub called_occurrences : List Sort → ℕ → List Kid → List Extra → List Called
-called_occurrences sorts left kids extras =
-    map called_own (attrs_of_sort sorts left)
-    ++ (flat_map (λ (kid : Kid). map (called_of kid.name) (attrs_of sorts kid.kind)) kids ++ flat_map (called_extra sorts) extras)
-
 abbrev pub same_owner : Option (List ℕ) → Option (List ℕ) → Bool
 same_owner None None = true
 same_owner None (Some b) = false
 same_owner (Some a) None = false
 same_owner (Some a) (Some b) = bytes_eq a b
 
-abbrev pub is_called : Option (List ℕ) → List ℕ → Called → Bool
-is_called owner n c = same_owner c.owner owner && bytes_eq c.called n
+abbrev pub is_called : Option (List ℕ) → List ℕ → Occurrence → Bool
+is_called owner n o = same_owner o.owner owner && bytes_eq o.name n
 
 -- the number of the occurrence that is called so
-abbrev pub occurrence_number : List Called → Option (List ℕ) → List ℕ → Option ℕ
+abbrev pub occurrence_number : List Occurrence → Option (List ℕ) → List ℕ → Option ℕ
 occurrence_number occurrences owner n = position (is_called owner n) occurrences
 
 -- the number of the child of this name
@@ -125,10 +104,10 @@ abbrev pub or_leaf : List Kid → List ℕ → Option ℕ → Option Expr
 or_leaf kids n (Some i) = Some (e.Occ i)
 or_leaf kids n None = option_map e.Leaf (leaf_number kids n)
 
--- the names that an expression of a production may use: productions, what its occurrences are called, its children
+-- the names that an expression of a production may use: productions, its occurrences, its children
 pub record Known : Type 0 where
   pub prods : List RawProd
-  pub occurrences : List Called
+  pub occurrences : List Occurrence
   pub kids : List Kid
 
 -- one node of an expression, with the expressions of its parts in their places
@@ -190,13 +169,20 @@ abbrev pub named_with : List RawProd → List Sort → RawProd → ℕ → List 
 named_with raw sorts p left kids extras =
     option_and_then
     (λ equations. option_map (λ pattern. record { name = p.name; left = left; kids = kids; extras = extras; equations = equations; pattern = pattern }) (named_pattern kids p.items))
-    (named_equations (record { prods = raw; occurrences = called_occurrences sorts left kids extras; kids = kids }) p.items)
+    (named_equations (record { prods = raw; occurrences = signed_occurrences sorts left kids extras; kids = kids }) p.items)
 
 abbrev pub named_production : RawGrammar → List Sort → RawProd → Option Production
 named_production raw sorts p =
     option_and_then
     (λ left. option_and_then (λ kids. option_and_then (named_with raw.prods sorts p left kids) (named_extras raw.sorts p.items)) (each_some (map (named_kid raw.sorts) p.kids)))
     (sort_number raw.sorts p.left)
+
+-- A signature tells what each occurrence of a production is called: the equations that are written have the numbers that
+-- its occurrences give.
+abbrev pub TellsCalls : Type 0
+TellsCalls =
+    (raw : RawGrammar) (sorts : List Sort) (p : RawProd) (named : Production) → named_production raw sorts p ≡ Some named
+    → named_equations (record { prods = raw.prods; occurrences = (signature_of sorts named).occurrences; kids = named.kids }) p.items ≡ Some named.equations
 
 -- The grammar that is written, by numbers; none where a name is unknown, or where a production has two patterns.
 abbrev pub named_grammar : RawGrammar → Option Grammar

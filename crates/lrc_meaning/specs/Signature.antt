@@ -17,7 +17,6 @@ use Rattle.lrc_base.specs.declared.signature.Symbol.{Symbol}
 use Rattle.lrc_base.specs.declared.signature.Signature.{Signature}
 use Rattle.lrc_meaning.specs.Grammar as grammar
 use Rattle.lrc_meaning.specs.Grammar.{attrs_of_sort, attrs_of, occurrences_of}
-use Rattle.lrc_meaning.specs.Naming.{Called, called_occurrences}
 
 -- an attribute of the left side: its equations read what is inherited and define what is synthesised
 abbrev pub left_attribute : Attr → Occurrence
@@ -72,11 +71,11 @@ signed_extras sorts start (x ∷ xs) =
     cond x.attached (signed_symbol x.name x.kind (origin.Value start) (start + 1)) []
     ++ signed_extras sorts (start + length (extra_attributes sorts x)) xs
 
--- The symbols of a production, by number.
-abbrev pub signed_symbols : List Sort → Production → List Symbol
-signed_symbols sorts p =
-    let own = length (attrs_of_sort sorts p.left) in
-    signed_kids sorts own 0 p.kids ++ signed_extras sorts (own + length (flat_map (kid_attributes sorts) p.kids)) p.extras
+-- The symbols of a left side with these children, locals and nonterminal attributes, by number.
+abbrev pub signed_symbols : List Sort → ℕ → List Kid → List Extra → List Symbol
+signed_symbols sorts left kids extras =
+    let own = length (attrs_of_sort sorts left) in
+    signed_kids sorts own 0 kids ++ signed_extras sorts (own + length (flat_map (kid_attributes sorts) kids)) extras
 
 -- the number of the first equation of an occurrence
 abbrev pub equation_of : List Equation → ℕ → Option ℕ
@@ -86,19 +85,12 @@ equation_of equations o = position_from (λ (e : Equation). e.target == o) 0 equ
 abbrev pub signature_of : List Sort → Production → Signature
 signature_of sorts p =
     let occurrences = signed_occurrences sorts p.left p.kids p.extras in
-    record { occurrences = occurrences; equations = map (equation_of p.equations) (range_with_len 0 (length occurrences)); symbols = signed_symbols sorts p }
+    record { occurrences = occurrences; equations = map (equation_of p.equations) (range_with_len 0 (length occurrences)); symbols = signed_symbols sorts p.left p.kids p.extras }
 
--- what well-formedness asks of an occurrence, and what it is called
+-- what well-formedness asks of an occurrence
 abbrev pub role_of : Occurrence → grammar.Occurrence
 role_of o = record { kind = o.kind; is_defined = o.is_defined; is_read = o.is_read }
 
-abbrev pub called_as : Occurrence → Called
-called_as o = record { owner = o.owner; called = o.name }
-
--- A signature tells what stands at each occurrence of a production, and what each is called.
+-- A signature tells what stands at each occurrence of a production.
 abbrev pub TellsRoles : Type 0
 TellsRoles = (sorts : List Sort) (p : Production) → map role_of (signature_of sorts p).occurrences ≡ occurrences_of sorts p
-
-abbrev pub TellsCalls : Type 0
-TellsCalls =
-    (sorts : List Sort) (p : Production) → map called_as (signature_of sorts p).occurrences ≡ called_occurrences sorts p.left p.kids p.extras

@@ -10,7 +10,8 @@ ghost use Rattle.lrc_meaning.specs.Tree.{Tree, int, fits};
 ghost use Rattle.lrc_meaning.specs.Grammar.{is_well_formed};
 ghost use Rattle.lrc_meaning.specs.Attribution.{Attributes, IsAttribution};
 ghost use Rattle.lrc_meaning.specs.Editing.{RepliesTellTheRest};
-ghost use Rattle.lrc_meaning.specs.Signature.{TellsRoles, TellsCalls};
+ghost use Rattle.lrc_meaning.specs.Naming.{TellsCalls};
+ghost use Rattle.lrc_meaning.specs.Signature.{TellsRoles};
 ghost use Rattle.lrc_meaning.specs.Examples.{sums, one_and_two, decorated_sum, declarations, two_declarations};
 
 /// The sum grammar and the declarations grammar are well formed.

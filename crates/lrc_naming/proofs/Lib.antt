@@ -1,5 +1,5 @@
 pub mod NamingLemmas
 pub mod ListLemmas
-pub mod OccurrenceLemmas
+pub mod CountLemmas
 pub mod PatternLemmas
 pub mod ProductionLemmas

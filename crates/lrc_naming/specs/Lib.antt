@@ -1,3 +1,3 @@
-pub mod Called
+pub mod Counted
+pub mod Names
 pub mod Numbered
-pub mod Part

@@ -1,8 +1,10 @@
 ghost use Rattle.std.specs.Prelude.{◌≡◌, None, Some, map, option_map, IfOk};
 ghost use Rattle.lrc_base.specs.declared.expr.Expr.TheVariants as e;
 ghost use Rattle.lrc_meaning.specs.Naming.{occurrence_number, or_leaf, named_expr, each_some};
-ghost use Rattle.lrc_naming.specs.Called.{IsCounted};
+ghost use Rattle.lrc_naming.specs.Counted.{IsCounted};
+ghost use Rattle.lrc_naming.specs.Names.{Names};
 
+use crate::fault::NamingFault;
 use crate::occurrence::{leaf_number, occurrence_number};
 use crate::scope::Scope;
 use crate::written::written_number;
@@ -45,68 +47,52 @@ fn choice(alloc: Global, condition: Expr, then: Expr, other: Expr) -> Result<Exp
     ))
 }
 
-/// The expression that is written, by numbers; None where a name is unknown.
+/// The expression that is written, by numbers.
+///
+/// # Errors
+///
+/// `Unnamed` where a name is unknown. Want of memory.
 #[cycle(expr)]
 #[tactic(auto, using(crate::proofs::NamingLemmas::named_expr_equations))]
-pub fn named_expr(alloc: Global, scope: &Scope<'_>, raw: &RawExpr) -> Result<Option<Expr>, Memory>
+pub fn named_expr(alloc: Global, scope: &Scope<'_>, raw: &RawExpr) -> Result<Expr, NamingFault>
     requires { IsCounted scope.now }
-    ensures { IfOk result (λ named. named ≡ named_expr scope.now raw.now) }
+    ensures { Names result (named_expr scope.now raw.now) }
 {
     match raw {
-        RawExpr::Int(value) => Ok(Some(Expr::Int(*value))),
-        RawExpr::Bool(value) => Ok(Some(Expr::Bool(*value))),
-        RawExpr::Name(name) => Ok(Some(Expr::Name(*name))),
-        RawExpr::One(name) => Ok(named_one(scope, *name)),
-        RawExpr::Two(owner, name) => Ok(named_two(scope, *owner, *name)),
+        RawExpr::Int(value) => Ok(Expr::Int(*value)),
+        RawExpr::Bool(value) => Ok(Expr::Bool(*value)),
+        RawExpr::Name(name) => Ok(Expr::Name(*name)),
+        RawExpr::One(name) => named_one(scope, *name).ok_or(NamingFault::Unnamed),
+        RawExpr::Two(owner, name) => named_two(scope, *owner, *name).ok_or(NamingFault::Unnamed),
         RawExpr::Op(op, left, right) => {
-            let Some(left) = named_expr(alloc, scope, left.get())? else {
-                return Ok(None);
-            };
-            let Some(right) = named_expr(alloc, scope, right.get())? else {
-                return Ok(None);
-            };
-            Ok(Some(operated(alloc, *op, left, right)?))
+            let left = named_expr(alloc, scope, left.get())?;
+            let right = named_expr(alloc, scope, right.get())?;
+            Ok(operated(alloc, *op, left, right)?)
         }
         RawExpr::If(condition, then, other) => {
-            let Some(condition) = named_expr(alloc, scope, condition.get())? else {
-                return Ok(None);
-            };
-            let Some(then) = named_expr(alloc, scope, then.get())? else {
-                return Ok(None);
-            };
-            let Some(other) = named_expr(alloc, scope, other.get())? else {
-                return Ok(None);
-            };
-            Ok(Some(choice(alloc, condition, then, other)?))
+            let condition = named_expr(alloc, scope, condition.get())?;
+            let then = named_expr(alloc, scope, then.get())?;
+            let other = named_expr(alloc, scope, other.get())?;
+            Ok(choice(alloc, condition, then, other)?)
         }
         RawExpr::Make(name, args) => {
-            let Some(number) = written_number(scope.prods, *name) else {
-                return Ok(None);
-            };
-            let Some(args) = named_exprs(alloc, scope, args.as_slice())? else {
-                return Ok(None);
-            };
-            Ok(Some(Expr::Make(number, args)))
+            let number = written_number(scope.prods, *name).ok_or(NamingFault::Unnamed)?;
+            let args = named_exprs(alloc, scope, args.as_slice())?;
+            Ok(Expr::Make(number, args))
         }
     }
 }
 
 #[cycle(expr)]
 #[tactic(auto, using(crate::proofs::NamingLemmas::named_expr_equations))]
-fn named_exprs(
-    alloc: Global,
-    scope: &Scope<'_>,
-    raw: &[RawExpr],
-) -> Result<Option<List<Expr>>, Memory>
+fn named_exprs(alloc: Global, scope: &Scope<'_>, raw: &[RawExpr]) -> Result<List<Expr>, NamingFault>
     requires { IsCounted scope.now }
-    ensures { IfOk result (λ named. named ≡ each_some (map (named_expr scope.now) raw.now)) }
+    ensures { Names result (each_some (map (named_expr scope.now) raw.now)) }
 {
     let mut named = List::new(alloc);
     for part in raw {
-        let Some(one) = named_expr(alloc, scope, part)? else {
-            return Ok(None);
-        };
-        named.push(one)?;
+        let expr = named_expr(alloc, scope, part)?;
+        named.push(expr)?;
     }
-    Ok(Some(named))
+    Ok(named)
 }

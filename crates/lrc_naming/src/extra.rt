@@ -1,11 +1,11 @@
 ghost use Rattle.std.specs.Prelude.{◌≡◌, ◌<◌, ◌^◌, length, option_map, true, false, IfOk};
 ghost use Rattle.lrc_base.specs.declared.grammar.Kind.TheVariants as k;
 ghost use Rattle.lrc_meaning.specs.Naming.{sort_number, named_kind, named_extra, named_extras};
-ghost use Rattle.lrc_naming.specs.Part.{parts};
+ghost use Rattle.lrc_naming.specs.Names.{Names, NamesPart};
 
+use crate::fault::NamingFault;
 use crate::kind::{named_kind, sort_number};
-use crate::part::Part;
-use lrc_base::{Extra, Kind, List, Memory, NameText, RawItem, RawKind, RawSort};
+use lrc_base::{Extra, Kind, List, NameText, RawItem, RawKind, RawSort};
 use std::alloc::Global;
 
 fn named_local(sorts: &[RawSort], name: NameText, kind: RawKind) -> Option<Extra>
@@ -32,33 +32,37 @@ fn named_attached(sorts: &[RawSort], name: NameText, sort: NameText) -> Option<E
     })
 }
 
-fn named_extra(sorts: &[RawSort], item: &RawItem) -> Part<Extra>
+/// The local or nonterminal attribute that an item declares; None where it declares none.
+fn named_extra(sorts: &[RawSort], item: &RawItem) -> Result<Option<Extra>, NamingFault>
     requires { length sorts.now < 2 ^ 32 }
-    ensures { parts result ≡ named_extra sorts.now item.now }
+    ensures { NamesPart result (named_extra sorts.now item.now) }
 {
-    match item {
-        RawItem::Local(name, kind, _) => Part::of(named_local(sorts, *name, *kind)),
-        RawItem::Attach(name, sort, _) => Part::of(named_attached(sorts, *name, *sort)),
-        RawItem::Own(_, _) | RawItem::OfKid(_, _, _) | RawItem::Pattern(_) => Part::Absent,
-    }
+    let extra = match item {
+        RawItem::Local(name, kind, _) => named_local(sorts, *name, *kind),
+        RawItem::Attach(name, sort, _) => named_attached(sorts, *name, *sort),
+        RawItem::Own(_, _) | RawItem::OfKid(_, _, _) | RawItem::Pattern(_) => return Ok(None),
+    };
+    Ok(Some(extra.ok_or(NamingFault::Unnamed)?))
 }
 
-/// The locals and nonterminal attributes that are declared, in order; None where a sort is unknown.
+/// The locals and nonterminal attributes that are declared, in order.
+///
+/// # Errors
+///
+/// `Unnamed` where a sort is unknown. Want of memory.
 pub fn named_extras(
     alloc: Global,
     sorts: &[RawSort],
     items: &[RawItem],
-) -> Result<Option<List<Extra>>, Memory>
+) -> Result<List<Extra>, NamingFault>
     requires { length sorts.now < 2 ^ 32 }
-    ensures { IfOk result (λ named. named ≡ named_extras sorts.now items.now) }
+    ensures { Names result (named_extras sorts.now items.now) }
 {
     let mut named = List::new(alloc);
     for item in items {
-        match named_extra(sorts, item) {
-            Part::Absent => {}
-            Part::Unknown => return Ok(None),
-            Part::Named(one) => named.push(one)?,
+        if let Some(extra) = named_extra(sorts, item)? {
+            named.push(extra)?;
         }
     }
-    Ok(Some(named))
+    Ok(named)
 }

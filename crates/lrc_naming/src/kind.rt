@@ -1,7 +1,9 @@
-ghost use Rattle.std.specs.Prelude.{◌≡◌, ◌<◌, ◌^◌, length, map, IfOk};
+ghost use Rattle.std.specs.Prelude.{◌≡◌, ◌<◌, ◌^◌, length, map};
 ghost use Rattle.lrc_meaning.specs.Naming.{sort_number, named_kind, named_attr, named_sort, named_kid, each_some};
+ghost use Rattle.lrc_naming.specs.Names.{Names};
 
-use lrc_base::{Attr, Kid, Kind, List, Memory, NameText, RawAttr, RawKid, RawKind, RawSort, Sort};
+use crate::fault::NamingFault;
+use lrc_base::{Attr, Kid, Kind, List, NameText, RawAttr, RawKid, RawKind, RawSort, Sort};
 use std::alloc::Global;
 
 /// The number of the first sort of this name.
@@ -48,32 +50,32 @@ fn named_attrs(
     alloc: Global,
     sorts: &[RawSort],
     attrs: &[RawAttr],
-) -> Result<Option<List<Attr>>, Memory>
+) -> Result<List<Attr>, NamingFault>
     requires { length sorts.now < 2 ^ 32 }
-    ensures { IfOk result (λ named. named ≡ each_some (map (named_attr sorts.now) attrs.now)) }
+    ensures { Names result (each_some (map (named_attr sorts.now) attrs.now)) }
 {
     let mut named = List::new(alloc);
     for attr in attrs {
-        let Some(one) = named_attr(sorts, attr) else {
-            return Ok(None);
-        };
-        named.push(one)?;
+        let attr = named_attr(sorts, attr).ok_or(NamingFault::Unnamed)?;
+        named.push(attr)?;
     }
-    Ok(Some(named))
+    Ok(named)
 }
 
-/// The sort that is written, its attributes' kinds by number; None where a kind names no sort.
-pub fn named_sort(alloc: Global, sorts: &[RawSort], sort: &RawSort) -> Result<Option<Sort>, Memory>
+/// The sort that is written, its attributes' kinds by number.
+///
+/// # Errors
+///
+/// `Unnamed` where a kind names no sort. Want of memory.
+pub fn named_sort(alloc: Global, sorts: &[RawSort], sort: &RawSort) -> Result<Sort, NamingFault>
     requires { length sorts.now < 2 ^ 32 }
-    ensures { IfOk result (λ named. named ≡ named_sort sorts.now sort.now) }
+    ensures { Names result (named_sort sorts.now sort.now) }
 {
-    let Some(attrs) = named_attrs(alloc, sorts, sort.attrs.as_slice())? else {
-        return Ok(None);
-    };
-    Ok(Some(Sort {
+    let attrs = named_attrs(alloc, sorts, sort.attrs.as_slice())?;
+    Ok(Sort {
         name: sort.name,
         attrs,
-    }))
+    })
 }
 
 fn named_kid(sorts: &[RawSort], kid: &RawKid) -> Option<Kid>
@@ -87,21 +89,23 @@ fn named_kid(sorts: &[RawSort], kid: &RawKid) -> Option<Kid>
     })
 }
 
-/// The children that are written, in order; None where a kind names no sort.
+/// The children that are written, in order.
+///
+/// # Errors
+///
+/// `Unnamed` where a kind names no sort. Want of memory.
 pub fn named_kids(
     alloc: Global,
     sorts: &[RawSort],
     kids: &[RawKid],
-) -> Result<Option<List<Kid>>, Memory>
+) -> Result<List<Kid>, NamingFault>
     requires { length sorts.now < 2 ^ 32 }
-    ensures { IfOk result (λ named. named ≡ each_some (map (named_kid sorts.now) kids.now)) }
+    ensures { Names result (each_some (map (named_kid sorts.now) kids.now)) }
 {
     let mut named = List::new(alloc);
     for kid in kids {
-        let Some(one) = named_kid(sorts, kid) else {
-            return Ok(None);
-        };
-        named.push(one)?;
+        let kid = named_kid(sorts, kid).ok_or(NamingFault::Unnamed)?;
+        named.push(kid)?;
     }
-    Ok(Some(named))
+    Ok(named)
 }

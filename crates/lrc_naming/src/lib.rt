@@ -5,16 +5,17 @@
 mod equation;
 mod expr;
 mod extra;
+mod fault;
 mod grammar;
 mod kind;
 mod number;
 mod occurrence;
-mod part;
 mod pattern;
 mod production;
 mod scope;
 mod written;
 
+pub use fault::NamingFault;
 pub use grammar::{Numbered, named_grammar};
 pub use number::production_number;
-pub use occurrence::{OccurrenceName, called_occurrences};
+pub use occurrence::same_owner;

@@ -1,8 +1,8 @@
 ghost use Rattle.std.specs.Prelude.{◌≡◌, ◌<◌, ◌^◌, length, map, IfOk};
 ghost use Rattle.lrc_meaning.specs.Naming.{kid_number, named_piece, named_pattern, pattern_of, each_some};
-ghost use Rattle.lrc_naming.specs.Part.{parts};
+ghost use Rattle.lrc_naming.specs.Names.{Names, NamesPart};
 
-use crate::part::Part;
+use crate::fault::NamingFault;
 use lrc_base::{Kid, List, Memory, NameText, Piece, RawItem, RawPiece};
 use std::alloc::Global;
 
@@ -21,16 +21,16 @@ fn kid_place(kids: &[Kid], name: NameText) -> Option<usize>
     kids.iter().position(|kid| kid.name == name)
 }
 
-fn named_piece(alloc: Global, kids: &[Kid], piece: &RawPiece) -> Result<Option<Piece>, Memory>
+fn named_piece(alloc: Global, kids: &[Kid], piece: &RawPiece) -> Result<Piece, NamingFault>
     requires { length kids.now < 2 ^ 32 }
-    ensures { IfOk result (λ named. named ≡ named_piece kids.now piece.now) }
+    ensures { Names result (named_piece kids.now piece.now) }
 {
     match piece {
-        RawPiece::Text(bytes) => Ok(Some(Piece::Text(copied(alloc, bytes.as_slice())?))),
-        RawPiece::Kid(name) => match kid_number(kids, *name) {
-            Some(number) => Ok(Some(Piece::Kid(number))),
-            None => Ok(None),
-        },
+        RawPiece::Text(bytes) => Ok(Piece::Text(copied(alloc, bytes.as_slice())?)),
+        RawPiece::Kid(name) => {
+            let number = kid_number(kids, *name).ok_or(NamingFault::Unnamed)?;
+            Ok(Piece::Kid(number))
+        }
     }
 }
 
@@ -48,51 +48,56 @@ fn named_pieces(
     alloc: Global,
     kids: &[Kid],
     pieces: &[RawPiece],
-) -> Result<Option<List<Piece>>, Memory>
+) -> Result<List<Piece>, NamingFault>
     requires { length kids.now < 2 ^ 32 }
-    ensures { IfOk result (λ named. named ≡ each_some (map (named_piece kids.now) pieces.now)) }
+    ensures { Names result (each_some (map (named_piece kids.now) pieces.now)) }
 {
     let mut named = List::new(alloc);
     for piece in pieces {
-        let Some(one) = named_piece(alloc, kids, piece)? else {
-            return Ok(None);
-        };
-        named.push(one)?;
+        let piece = named_piece(alloc, kids, piece)?;
+        named.push(piece)?;
     }
-    Ok(Some(named))
+    Ok(named)
 }
 
-/// The pattern that an item is.
-fn item_pattern(alloc: Global, kids: &[Kid], item: &RawItem) -> Result<Part<List<Piece>>, Memory>
+/// The pattern that an item is; None where it is an equation.
+fn item_pattern(
+    alloc: Global,
+    kids: &[Kid],
+    item: &RawItem,
+) -> Result<Option<List<Piece>>, NamingFault>
     requires { length kids.now < 2 ^ 32 }
-    ensures { IfOk result (λ named. parts named ≡ map (λ pieces. each_some (map (named_piece kids.now) pieces)) (pattern_of item.now)) }
+    ensures { NamesPart result (map (λ pieces. each_some (map (named_piece kids.now) pieces)) (pattern_of item.now)) }
 {
     match item {
-        RawItem::Pattern(pieces) => Ok(Part::of(named_pieces(alloc, kids, pieces.as_slice())?)),
+        RawItem::Pattern(pieces) => Ok(Some(named_pieces(alloc, kids, pieces.as_slice())?)),
         RawItem::Local(_, _, _)
         | RawItem::Attach(_, _, _)
         | RawItem::Own(_, _)
-        | RawItem::OfKid(_, _, _) => Ok(Part::Absent),
+        | RawItem::OfKid(_, _, _) => Ok(None),
     }
 }
 
-/// The pattern among the items; `None` where a child is unknown, or where two patterns stand.
+/// The pattern among the items, where there is one.
+///
+/// # Errors
+///
+/// `Unnamed` where a child is unknown, or where two patterns stand. Want of memory.
 pub fn named_pattern(
     alloc: Global,
     kids: &[Kid],
     items: &[RawItem],
-) -> Result<Option<Option<List<Piece>>>, Memory>
+) -> Result<Option<List<Piece>>, NamingFault>
     requires { length kids.now < 2 ^ 32 }
-    ensures { IfOk result (λ named. named ≡ named_pattern kids.now items.now) }
+    ensures { Names result (named_pattern kids.now items.now) }
 {
     let mut pattern = None;
     for item in items {
         match item_pattern(alloc, kids, item)? {
-            Part::Absent => {}
-            Part::Unknown => return Ok(None),
-            Part::Named(_) if pattern.is_some() => return Ok(None),
-            Part::Named(pieces) => pattern = Some(pieces),
+            None => {}
+            Some(_) if pattern.is_some() => return Err(NamingFault::Unnamed),
+            Some(pieces) => pattern = Some(pieces),
         }
     }
-    Ok(Some(pattern))
+    Ok(pattern)
 }

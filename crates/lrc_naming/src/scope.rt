@@ -1,13 +1,12 @@
-use crate::occurrence::OccurrenceName;
-use lrc_base::{Kid, RawProd};
+use lrc_base::{Kid, Occurrence, RawProd};
 use std::marker::Model;
 
-/// The names that an expression of a production may use: productions, what the production's
-/// occurrences are called by number, and its children.
+/// The names that an expression of a production may use: productions, the production's occurrences,
+/// and its children.
 #[derive(Debug, Drop)]
 pub struct Scope<'a> {
     pub prods: &'a [RawProd],
-    pub occurrences: &'a [OccurrenceName],
+    pub occurrences: &'a [Occurrence],
     pub kids: &'a [Kid],
 }
 

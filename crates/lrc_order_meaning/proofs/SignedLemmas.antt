@@ -52,7 +52,7 @@ signed_kid_count sorts kids =
     sym (length-map (flat_map (kid_attributes sorts) kids) role_of)
     ∙ ap length (map-parts role_of (kid_attributes sorts) (λ (kid : Kid). map symbol_occurrence (attrs_of sorts kid.kind)) (λ kid. map-attributes role_of sorts kid.name (attrs_of sorts kid.kind)) kids)
 
-pub signed_places : (sorts : List Sort) (p : Production) → map place_of (signed_symbols sorts p) ≡ symbols_of sorts p
+pub signed_places : (sorts : List Sort) (p : Production) → map place_of (signed_symbols sorts p.left p.kids p.extras) ≡ symbols_of sorts p
 signed_places sorts p =
     let own = own_end sorts p in
     map-append place_of (signed_kids sorts own 0 p.kids) (signed_extras sorts (own + length (flat_map (kid_attributes sorts) p.kids)) p.extras)

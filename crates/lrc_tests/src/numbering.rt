@@ -2,7 +2,7 @@
 
 use crate::jobs::SUMS;
 use lrc_base::{Expr, Op, Piece};
-use lrc_naming::{Numbered, named_grammar};
+use lrc_naming::{NamingFault, Numbered, named_grammar};
 use lrc_reader::read_job;
 use std::alloc::Global;
 use std::test::Fail;
@@ -20,10 +20,17 @@ prod Twice: S (n: Int) {
 start S;
 ";
 
+/// Nothing is called `m`.
+const UNKNOWN: &[u8] = b"lrc 1
+sort S { syn value: Int; }
+prod Num: S (n: Int) { value = m; }
+start S;
+";
+
 /// The grammar of a text by numbers.
 fn numbered(alloc: Global, text: &[u8]) -> Result<Numbered, Fail> {
     let job = read_job(alloc, text)?;
-    Ok(named_grammar(alloc, &job.grammar)?.ok_or("a name is unknown")?)
+    Ok(named_grammar(alloc, &job.grammar)?)
 }
 
 #[test]
@@ -65,5 +72,13 @@ fn locals_attached_trees_and_patterns_are_numbered(rt: HostRuntime) -> Result<()
         Some(pieces) => assert!(rt; matches!(pieces.get(1), Some(Piece::Kid(0)))),
         None => panic!(rt; "a pattern"),
     }
+    Ok(())
+}
+
+#[test]
+fn an_unknown_name_has_no_number(rt: HostRuntime) -> Result<(), Fail> {
+    let job = read_job(rt.alloc(), UNKNOWN)?;
+    let named = named_grammar(rt.alloc(), &job.grammar);
+    assert!(rt; matches!(named, Err(NamingFault::Unnamed)));
     Ok(())
 }

@@ -1,22 +1,12 @@
--- What the occurrences of a production are called, and how many names there are.
-use Rattle.std.specs.Prelude.{ℕ, List, map, Option, Bool, true, false, bytes_eq, ◌&&◌, cond, ◌≤◌, ◌<◌, ◌^◌, length, count_by}
+-- Leaves by their names, and how many names can be numbered.
+use Rattle.std.specs.Prelude.{ℕ, List, Bool, true, false, bytes_eq, ◌&&◌, cond, ◌≤◌, ◌<◌, ◌^◌, length, count_by}
 use Rattle.lrc_base.specs.declared.limits.TheConstants.{ATTRIBUTE_LIMIT, CHILD_LIMIT, LOCAL_LIMIT}
-use Rattle.lrc_base.specs.declared.grammar.Attr.{Attr}
 use Rattle.lrc_base.specs.declared.grammar.Sort.{Sort}
 use Rattle.lrc_base.specs.declared.grammar.Kid.{Kid}
 use Rattle.lrc_base.specs.declared.raw.RawProd.{RawProd}
 use Rattle.lrc_meaning.specs.Tree.{is_sort}
-use Rattle.lrc_meaning.specs.Grammar.{attrs_of}
 use Rattle.lrc_meaning.specs.Limits.{is_declaration}
-use Rattle.lrc_meaning.specs.Naming.{Called, Known, called_of}
-
--- an attribute of this owner, none for the left side
-abbrev pub called_by : Option (List ℕ) → Attr → Called
-called_by owner a = record { owner = owner; called = a.name }
-
--- what the occurrences of a child are called
-abbrev pub called_of_kid : List Sort → Kid → List Called
-called_of_kid sorts kid = map (called_of kid.name) (attrs_of sorts kid.kind)
+use Rattle.lrc_meaning.specs.Naming.{Known}
 
 -- a leaf of this name
 abbrev pub is_leaf_of : List ℕ → Kid → Bool
