@@ -15,6 +15,8 @@ mod planning;
 mod segments;
 mod sequenced;
 mod sequences;
+mod shape;
+mod site;
 mod visit_table;
 mod visits;
 mod waiting;
