@@ -1,29 +1,20 @@
 -- A production of a grammar has few occurrences and symbols, and its trees and needs are in order.
-use Rattle.std.proofs.Common.{◌≡◌, ℕ, ◌+◌, ◌<◌, ◌≤◌, ◌^◌, Bool, true, false, cond, IsTrue, List, [], ◌∷◌, length, map, get_or, All, Contains, Option, Some, None, length-append, arith, zero-le}
-use Rattle.std.proofs.lemmas.List.Elements.{All-contains, All-map, All-weaker}
+use Rattle.std.proofs.Common.{ℕ, ◌+◌, ◌<◌, ◌≤◌, ◌^◌, Bool, true, false, cond, IsTrue, List, [], ◌∷◌, length, All, Contains, Option, Some, None, length-append, arith, zero-le}
+use Rattle.std.proofs.lemmas.List.Elements.{All-contains, All-weaker}
 use Rattle.lrc_base.specs.declared.grammar.Kind.{Kind}
 use Rattle.lrc_base.specs.declared.grammar.Kind.TheVariants as k
 use Rattle.lrc_base.specs.declared.grammar.Sort.{Sort}
 use Rattle.lrc_base.specs.declared.grammar.Kid.{Kid}
 use Rattle.lrc_base.specs.declared.grammar.Extra.{Extra}
 use Rattle.lrc_base.specs.declared.grammar.Production.{Production}
-use Rattle.lrc_meaning.specs.Grammar.{Grammar, attrs_of_sort, attrs_of, extra_occurrences, occurrences_of, is_well_formed}
+use Rattle.lrc_meaning.specs.Grammar.{Grammar, attrs_of, extra_occurrences, occurrences_of, is_well_formed}
 use Rattle.lrc_meaning.specs.Limits.{IsFew, IsWithinLimits}
 use Rattle.lrc_order_meaning.specs.Needs.{symbol_of, kid_symbols, extra_symbols, own_end, kids_end, symbols_of, places_of, needs_of}
 use Rattle.lrc_ordered.specs.Setup.{IsNeedBelow}
 use Rattle.lrc_ordered.proofs.RangeLemmas.{IsPlaced, places_placed, needs_within}
-use Rattle.lrc_ordered.proofs.OrderLemmas.{few_attrs}
 use Rattle.lrc_ordered.proofs.SmallLemmas.{few_is_small}
 use Rattle.lrc_plan.specs.Sites.{IsBehindTree}
 use Rattle.lrc_plan.proofs.InLemmas.{production_is_right}
-
--- a grammar has few sorts, and each has few attributes
-module _ (g : Grammar) (kept : IsWithinLimits g) where
-  pub few_sorts : length g.sorts < 2 ^ 32
-  few_sorts = let le = kept.sorts in omega arith
-
-  pub few_attributes : (s : ℕ) → length (attrs_of_sort g.sorts s) < 2 ^ 32
-  few_attributes s = let few = few_attrs g.sorts s (few_is_small g kept).attributes in omega arith
 
 one_symbol : (kind : Kind) (start : ℕ) (tree : Option ℕ) → length (symbol_of kind start tree) ≤ 1
 one_symbol k.Int start tree = zero-le

@@ -15,12 +15,11 @@ use Rattle.lrc_meaning.specs.Grammar.{Occurrence, occurrences_of}
 use Rattle.lrc_meaning.specs.Signature.{role_of, signature_of}
 use Rattle.lrc_meaning.proofs.SignatureLemmas.{signed_roles, signed_count}
 use Rattle.lrc_order_meaning.specs.declared.Partition.{Partition}
-use Rattle.lrc_order_meaning.specs.declared.Place.{Place}
-use Rattle.lrc_order_meaning.specs.Needs.{symbols_of, left_place, equation_needs}
+use Rattle.lrc_order_meaning.specs.Needs.{symbols_of, equation_needs}
 use Rattle.lrc_plan_meaning.specs.declared.Action.TheVariants as a
 use Rattle.lrc_plan_meaning.specs.declared.Bound.{Bound}
 use Rattle.lrc_plan_meaning.specs.declared.Bound.TheVariants as item
-use Rattle.lrc_plan_meaning.specs.Items.{visits_of, symbol_at, firsts_of, extended_of}
+use Rattle.lrc_plan_meaning.specs.Items.{firsts_of, extended_of}
 use Rattle.lrc_plan_meaning.specs.Sequences.{is_defined, visits_at, actions_of}
 use Rattle.lrc_plan.specs.declared.waiting.Waiting.{Waiting}
 use Rattle.lrc_plan.specs.Waiting.{waiting_of, waiting_evaluation}

@@ -1,4 +1,4 @@
-use Rattle.std.proofs.Common.{◌<◌, ◌≡◌, List, length, take, get_or, [], All, sym, subst, ◌∙◌, false, arith}
+use Rattle.std.proofs.Common.{◌<◌, List, length, [], All, sym, subst, ◌∙◌, arith}
 use Rattle.std.proofs.lemmas.List.{get_or_default, take_all}
 use Rattle.lrc_plan_meaning.specs.declared.Step.{Step}
 use Rattle.lrc_plan.specs.Gaining.{IsIn, gained_by, AreSetsOf}
