@@ -138,7 +138,7 @@ module _ (sorts : List Sort) (parts : List Partition) (p : Production) where
       (All-filter (comes_before parts place.sort x) (λ y. IsNeedBelow total (need (place.start + x) (place.start + y))) (range_with_len 0 count)
       (in_range (λ y. IsNeedBelow total (need (place.start + x) (place.start + y))) 0 count (λ y low2 less2. (omega arith, omega arith))))))
 
-  -- where needs are
+  -- where needs are of occurrences
   module _ (below : All (IsNeedBelow (length (occurrences_of sorts p))) (needs_of sorts p)) where
     pub extended_within : All (IsNeedBelow total) (extended_of sorts parts p)
     extended_within =

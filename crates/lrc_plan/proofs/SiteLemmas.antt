@@ -1,5 +1,5 @@
--- Where a production has few occurrences its places have, a set of its shape has room for its items, and its segments
--- are of them.
+-- Of a production with few occurrences: its places have few, a set of its shape has room for its items, and the steps of
+-- its segments need and make no others.
 use Rattle.std.proofs.Common.{◌≡◌, ℕ, suc, ◌+◌, ◌<◌, ◌^◌, Bool, List, [], length, map, get_or, All, sym, subst, arith}
 use Rattle.std.proofs.lemmas.List.Elements.{All-map, All-weaker}
 use Rattle.lrc_base.specs.declared.grammar.Sort.{Sort}
