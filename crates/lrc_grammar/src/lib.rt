@@ -1,16 +1,16 @@
-//! Well-formed grammars within the limits, and their occurrences.
+//! Well-formed grammars within the limits, and the signatures of their productions.
 #![tactic(auto)]
 
+mod attributes;
 mod copies;
 mod fitting;
 mod grammar;
 mod kinds;
-mod occurrences;
 mod plain;
 mod signature;
 
+pub use attributes::attrs_of_sort;
 pub use fitting::{is_within, same_kind};
 pub use grammar::Grammar;
 pub use kinds::is_sort;
-pub use occurrences::{Occurrence, attrs_of, attrs_of_sort, occurrences_of};
 pub use signature::occurrences_and_symbols;

@@ -6,7 +6,7 @@ ghost use Rattle.lrc_meaning.specs.Limits.{IsFew};
 ghost use Rattle.lrc_base.specs.declared.signature.Origin.TheVariants as origin;
 ghost use Rattle.lrc_meaning.specs.Signature.{left_attribute, symbol_attribute, attribute, kid_attributes, extra_attributes, signed_occurrences, signed_symbol, signed_kids, signed_extras, signed_symbols, equation_of, signature_of};
 
-use crate::occurrences::{attrs_of, attrs_of_sort};
+use crate::attributes::{attrs_of, attrs_of_sort};
 use lrc_base::{
     Attr, Equation, Extra, Kid, Kind, List, Memory, NameText, Occurrence, Origin, Production,
     Signature, Sort, Symbol,

@@ -22,7 +22,7 @@ use Rattle.lrc_order_meaning.specs.Extended.{Extended, ExtendedPath}
 use Rattle.lrc_order_meaning.specs.Ordered.{Partitions, ArePartitions, IsGivenThere, IsAcyclic}
 use Rattle.lrc_order_meaning.proofs.TurnLemmas.{sets_in_turn}
 use Rattle.lrc_ordered.proofs.PlaceLemmas.{places_within}
-use Rattle.lrc_ordered.proofs.RangeLemmas.{places_placed, IsNeedWithin}
+use Rattle.lrc_ordered.proofs.RangeLemmas.{needs_within, places_placed, IsNeedWithin}
 use Rattle.lrc_ordered.proofs.BridgeLemmas.{item_at}
 use Rattle.lrc_plan_meaning.specs.declared.Action.TheVariants as a
 use Rattle.lrc_plan_meaning.specs.declared.Bound.TheVariants as b
@@ -130,7 +130,7 @@ module _ (g : Grammar) (found : Partitions) (are : ArePartitions g found) (there
       by_eval : (o : ℕ) → o < total → is_defined (occurrences_of g.sorts p) o ≡ true → Absent o → Back o → ⊥
       by_eval o less defined absent back =
           let n = still_eval g.sorts parts p t kept ended o less defined absent in
-          let within = All-contains (IsNeedWithin total) (extended_of g.sorts parts p) n.0 (extended_within g.sorts parts g.prods p right) n.1 in
+          let within = All-contains (IsNeedWithin total) (extended_of g.sorts parts p) n.0 (extended_within g.sorts parts p (needs_within g.sorts g.prods p right)) n.1 in
           back n.0.first within.0 n.3
           (step n.0.first o (read_extended g found are there p known_sorts n.0.first o (subst (λ k. Contains (extended_of g.sorts parts p) (need n.0.first k)) n.2 n.1)))
 
@@ -268,7 +268,7 @@ module _ (g : Grammar) (found : Partitions) (are : ArePartitions g found) (there
             let y = awaits_absent g.sorts parts p t kept ended (a.Eval o) left in
             let n = member_of_map (λ (m : Need). b.Value m.first) (filter (λ (m : Need). m.then == o) (extended_of g.sorts parts p)) y.0 y.1 in
             let passes = member_of_filter (λ (m : Need). m.then == o) (extended_of g.sorts parts p) n.0 n.1 in
-            let within = All-contains (IsNeedWithin total) (extended_of g.sorts parts p) n.0 (extended_within g.sorts parts g.prods p right) passes.0 in
+            let within = All-contains (IsNeedWithin total) (extended_of g.sorts parts p) n.0 (extended_within g.sorts parts p (needs_within g.sorts g.prods p right)) passes.0 in
             none_absent last n.0.first within.0 (subst (λ z. is_among t.available z ≡ false) (sym n.2) y.2)
 
         pub no_visit_left : visits_of parts p.left ≤ v → (s j : ℕ) → s < length (symbols_of g.sorts p) → 1 ≤ j → j ≤ visits_of parts (symbol_at g.sorts p s).sort → Contains t.left (a.Visit s j) → ⊥

@@ -1,36 +1,20 @@
--- A production of a grammar has few occurrences and symbols, and an empty set of its shape has room for its items.
-use Rattle.std.proofs.Common.{◌≡◌, ℕ, ◌+◌, ◌<◌, ◌≤◌, ◌^◌, Bool, true, false, cond, IsTrue, List, [], ◌∷◌, length, map, get_or, All, Contains, Option, Some, None, length-append, arith, zero-le}
-use Rattle.std.proofs.lemmas.List.Elements.{All-contains, All-map, All-weaker}
+-- A production of a grammar has few occurrences and symbols, and its trees and needs are in order.
+use Rattle.std.proofs.Common.{ℕ, ◌+◌, ◌<◌, ◌≤◌, ◌^◌, Bool, true, false, cond, IsTrue, List, [], ◌∷◌, length, All, Contains, Option, Some, None, length-append, arith, zero-le}
+use Rattle.std.proofs.lemmas.List.Elements.{All-contains, All-weaker}
 use Rattle.lrc_base.specs.declared.grammar.Kind.{Kind}
 use Rattle.lrc_base.specs.declared.grammar.Kind.TheVariants as k
 use Rattle.lrc_base.specs.declared.grammar.Sort.{Sort}
 use Rattle.lrc_base.specs.declared.grammar.Kid.{Kid}
 use Rattle.lrc_base.specs.declared.grammar.Extra.{Extra}
 use Rattle.lrc_base.specs.declared.grammar.Production.{Production}
-use Rattle.lrc_meaning.specs.Grammar.{Grammar, attrs_of_sort, attrs_of, extra_occurrences, occurrences_of, is_production_right, is_well_formed}
+use Rattle.lrc_meaning.specs.Grammar.{Grammar, attrs_of, extra_occurrences, occurrences_of, is_well_formed}
 use Rattle.lrc_meaning.specs.Limits.{IsFew, IsWithinLimits}
-use Rattle.lrc_order_meaning.specs.declared.Need.{Need}
-use Rattle.lrc_order_meaning.specs.declared.Partition.{Partition}
-use Rattle.lrc_order_meaning.specs.declared.Place.{Place}
-use Rattle.lrc_order_meaning.specs.Needs.{symbol_of, kid_symbols, extra_symbols, own_end, kids_end, symbols_of, left_place, places_of}
-use Rattle.lrc_ordered.proofs.PlaceLemmas.{IsWithin, places_within}
-use Rattle.lrc_ordered.proofs.OrderLemmas.{few_attrs}
+use Rattle.lrc_order_meaning.specs.Needs.{symbol_of, kid_symbols, extra_symbols, own_end, kids_end, symbols_of, places_of, needs_of}
+use Rattle.lrc_ordered.specs.Setup.{IsNeedBelow}
+use Rattle.lrc_ordered.proofs.RangeLemmas.{IsPlaced, places_placed, needs_within}
 use Rattle.lrc_ordered.proofs.SmallLemmas.{few_is_small}
-use Rattle.lrc_plan_meaning.specs.Items.{values_of_visit, extended_of}
-use Rattle.lrc_plan_meaning.specs.Sequences.{actions_of}
-use Rattle.lrc_plan.specs.declared.waiting.Waiting.{Waiting}
-use Rattle.lrc_plan.specs.Waiting.{waiting_of}
-use Rattle.lrc_plan.specs.ItemSets.{Flags, HasRoom, HasRoomFor}
-use Rattle.lrc_plan.specs.Gaining.{shape_of}
-use Rattle.lrc_plan.proofs.InLemmas.{production_is_right, has_room, left_values_in, actions_in, IsActionIn, extended_in}
-
--- a grammar has few sorts, and each has few attributes
-module _ (g : Grammar) (kept : IsWithinLimits g) where
-  pub few_sorts : length g.sorts < 2 ^ 32
-  few_sorts = let le = kept.sorts in omega arith
-
-  pub few_attributes : (s : ℕ) → length (attrs_of_sort g.sorts s) < 2 ^ 32
-  few_attributes s = let few = few_attrs g.sorts s (few_is_small g kept).attributes in omega arith
+use Rattle.lrc_plan.specs.Sites.{IsBehindTree}
+use Rattle.lrc_plan.proofs.InLemmas.{production_is_right}
 
 one_symbol : (kind : Kind) (start : ℕ) (tree : Option ℕ) → length (symbol_of kind start tree) ≤ 1
 one_symbol k.Int start tree = zero-le
@@ -58,10 +42,7 @@ extra_symbols_few sorts start (x ∷ xs) =
     let both = length-append (cond x.attached (symbol_of x.kind (start + 1) (Some start)) []) (extra_symbols sorts (start + length (extra_occurrences sorts x)) xs) in
     omega arith
 
-module _ (g : Grammar) (well : IsTrue (is_well_formed g)) (kept : IsWithinLimits g) (parts : List Partition) (p : Production) (there : Contains g.prods p) where
-  pub right : is_production_right g.sorts g.prods p ≡ true
-  right = production_is_right g well p there
-
+module _ (g : Grammar) (well : IsTrue (is_well_formed g)) (kept : IsWithinLimits g) (p : Production) (there : Contains g.prods p) where
   pub few_occurrences : length (occurrences_of g.sorts p) < 2 ^ 32
   few_occurrences =
       let small = All-contains (λ q. length (occurrences_of g.sorts q) < 1024) g.prods p (few_is_small g kept).occurrences there in omega arith
@@ -78,26 +59,11 @@ module _ (g : Grammar) (well : IsTrue (is_well_formed g)) (kept : IsWithinLimits
       let both = length-append (kid_symbols g.sorts (own_end g.sorts p) p.kids) (extra_symbols g.sorts (kids_end g.sorts p) p.extras) in
       omega arith
 
-  pub places_fit : All (λ (place : Place). place.start + length (attrs_of_sort g.sorts place.sort) < 2 ^ 32) (places_of g.sorts p)
-  places_fit =
-      let few = few_occurrences in
-      All-weaker (IsWithin g.sorts (length (occurrences_of g.sorts p))) (λ (place : Place). place.start + length (attrs_of_sort g.sorts place.sort) < 2 ^ 32)
-      (λ place within. omega arith) (places_of g.sorts p) (places_within g.sorts p)
+  -- its trees stand before their attributes, and what it needs is of its occurrences
+  pub trees_before : All IsBehindTree (places_of g.sorts p)
+  trees_before =
+      All-weaker (IsPlaced g.sorts) IsBehindTree (λ place h. h.tree_before) (places_of g.sorts p)
+      (places_placed g.sorts g.prods p (production_is_right g well p there))
 
-  pub few_own : length (attrs_of_sort g.sorts p.left) < 2 ^ 32
-  few_own = let fit = places_fit 0 (left_place p) (omega arith) in omega arith
-
-  pub pairs_in : All (λ (n : Need). n.then < length (occurrences_of g.sorts p)) (extended_of g.sorts parts p)
-  pairs_in = extended_in g.sorts parts g.prods p right
-
-  module _ (f : Flags) (room : HasRoomFor f (shape_of g.sorts parts p).occurrences (shape_of g.sorts parts p).visits) where
-    pub makes_fit : All (λ (w : Waiting). All (HasRoom f) w.step.makes) (map (waiting_of g.sorts parts p) (actions_of g.sorts parts p))
-    makes_fit =
-        All-map (λ (w : Waiting). All (HasRoom f) w.step.makes) (waiting_of g.sorts parts p) (actions_of g.sorts parts p)
-        (All-weaker (IsActionIn g.sorts parts g.prods p right) (λ x. All (HasRoom f) (waiting_of g.sorts parts p x).step.makes)
-        (λ x h i d less. has_room f g.sorts parts p room (get_or (waiting_of g.sorts parts p x).step.makes i d) (h.1 i d less)) (actions_of g.sorts parts p)
-        (actions_in g.sorts parts g.prods p right))
-
-    pub inherited_fit : (v : ℕ) → All (HasRoom f) (values_of_visit g.sorts parts true p.left 0 v)
-    inherited_fit v i d less =
-        has_room f g.sorts parts p room (get_or (values_of_visit g.sorts parts true p.left 0 v) i d) (left_values_in g.sorts parts g.prods p right true v i d less)
+  pub needs_below : All (IsNeedBelow (length (occurrences_of g.sorts p))) (needs_of g.sorts p)
+  needs_below = needs_within g.sorts g.prods p (production_is_right g well p there)

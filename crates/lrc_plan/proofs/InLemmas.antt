@@ -14,13 +14,15 @@ use Rattle.lrc_order_meaning.specs.declared.Partition.{Partition}
 use Rattle.lrc_order_meaning.specs.declared.Place.{Place}
 use Rattle.lrc_order_meaning.specs.Needs.{need, symbols_of, left_place, places_of, needs_of, equation_needs, tree_needs}
 use Rattle.lrc_ordered.proofs.PlaceLemmas.{IsWithin, places_within}
-use Rattle.lrc_ordered.proofs.RangeLemmas.{all_flat, IsPlaced, places_placed, IsNeedWithin, needs_within, production_right}
+use Rattle.lrc_ordered.specs.Setup.{IsNeedBelow}
+use Rattle.lrc_ordered.proofs.RangeLemmas.{all_flat, production_right}
 use Rattle.lrc_plan_meaning.specs.declared.Action.{Action}
 use Rattle.lrc_plan_meaning.specs.declared.Action.TheVariants as a
 use Rattle.lrc_plan_meaning.specs.declared.Bound.{Bound}
 use Rattle.lrc_plan_meaning.specs.declared.Bound.TheVariants as b
 use Rattle.lrc_plan_meaning.specs.Items.{visits_of, visit_of, comes_before, is_of, values_of_visit, tree_of, taken, given_back, ordered_at, extended_of, firsts_of, symbol_at, needs, makes}
 use Rattle.lrc_plan_meaning.specs.Sequences.{is_defined, visits_at, actions_of}
+use Rattle.lrc_plan.specs.Sites.{IsBehindTree}
 use Rattle.lrc_plan.specs.Gaining.{shape_of, IsIn}
 use Rattle.lrc_plan.specs.ItemSets.{Flags, HasRoom, HasRoomFor}
 use Rattle.lrc_plan.proofs.PairLemmas.{all_front}
@@ -45,12 +47,16 @@ pub has_room : (f : Flags) (sorts : List Sort) (parts : List Partition) (p : Pro
 has_room f sorts parts p room (b.Value o) is = room.values o is
 has_room f sorts parts p room (b.Kid s i j) is = room.kids s i j is.0 is.1 is.2
 
-module _ (sorts : List Sort) (parts : List Partition) (prods : List Production) (p : Production) (right : is_production_right sorts prods p ≡ true) where
+module _ (sorts : List Sort) (parts : List Partition) (p : Production) where
   abbrev total : ℕ
   total = length (occurrences_of sorts p)
 
   abbrev In : Bound → Type 0
   In = IsIn (shape_of sorts parts p)
+
+  -- what an action needs and makes
+  abbrev pub IsActionIn : Action → Type 0
+  IsActionIn x = All In (needs sorts parts p x) × All In (makes sorts parts p x)
 
   visits_at_symbol : (s : ℕ) → s < length (symbols_of sorts p) → slice_index (shape_of sorts parts p).visits s ≡ visits_of parts (symbol_at sorts p s).sort
   visits_at_symbol s there = get_or-map (λ (place : Place). visits_of parts place.sort) (symbols_of sorts p) s (left_place p) 0 there
@@ -66,81 +72,82 @@ module _ (sorts : List Sort) (parts : List Partition) (prods : List Production) 
       let within = places_within sorts p 0 (left_place p) (omega arith) in
       values_in sorts parts In inherited p.left 0 v (λ x less. omega arith)
 
-  place_at : (s : ℕ) → s < length (symbols_of sorts p) → IsWithin sorts total (symbol_at sorts p s) × IsPlaced sorts (symbol_at sorts p s)
-  place_at s there =
-      (places_within sorts p (suc s) (left_place p) (omega arith), places_placed sorts prods p right (suc s) (left_place p) (omega arith))
+  -- where a nonterminal attribute's value stands before its attributes
+  module _ (behind : All IsBehindTree (places_of sorts p)) where
+    place_at : (s : ℕ) → s < length (symbols_of sorts p) → IsWithin sorts total (symbol_at sorts p s) × IsBehindTree (symbol_at sorts p s)
+    place_at s there = (places_within sorts p (suc s) (left_place p) (omega arith), behind (suc s) (left_place p) (omega arith))
 
-  tree_in : (place : Place) (tree : Option ℕ) → place.tree ≡ tree → IsPlaced sorts place → place.start ≤ total → All In (option_map_or (λ t. b.Value t ∷ []) tree [])
-  tree_in place None e placed le = All-nil In
-  tree_in place (Some t) e placed le =
-      let before = placed.tree_before t e in
-      All-cons In (b.Value t) [] (omega arith) (All-nil In)
+    tree_in : (place : Place) (tree : Option ℕ) → place.tree ≡ tree → IsBehindTree place → place.start ≤ total → All In (option_map_or (λ t. b.Value t ∷ []) tree [])
+    tree_in place None e placed le = All-nil In
+    tree_in place (Some t) e placed le =
+        let before = placed t e in
+        All-cons In (b.Value t) [] (omega arith) (All-nil In)
 
-  pub taken_in : (s v : ℕ) → s < length (symbols_of sorts p) → v ≤ visits_of parts (symbol_at sorts p s).sort → All In (taken sorts parts (symbol_at sorts p s) s v)
-  taken_in s v there le =
-      let place = symbol_at sorts p s in
-      let at = place_at s there in
-      let within = at.0 in
-      All-append In (tree_of place) (values_of_visit sorts parts true place.sort place.start v ++ map (λ u. b.Kid s u v) (range_with_len 1 (v - 1)))
-      (tree_in place place.tree refl at.1 (omega arith))
-      (All-append In (values_of_visit sorts parts true place.sort place.start v) (map (λ u. b.Kid s u v) (range_with_len 1 (v - 1)))
-      (values_in sorts parts In true place.sort place.start v (λ x less. omega arith))
-      (All-map In (λ u. b.Kid s u v) (range_with_len 1 (v - 1)) (in_range (λ u. In (b.Kid s u v)) 1 (v - 1) (λ u low less. kid_in s u v there (omega arith) le))))
+    taken_in : (s v : ℕ) → s < length (symbols_of sorts p) → v ≤ visits_of parts (symbol_at sorts p s).sort → All In (taken sorts parts (symbol_at sorts p s) s v)
+    taken_in s v there le =
+        let place = symbol_at sorts p s in
+        let at = place_at s there in
+        let within = at.0 in
+        All-append In (tree_of place) (values_of_visit sorts parts true place.sort place.start v ++ map (λ u. b.Kid s u v) (range_with_len 1 (v - 1)))
+        (tree_in place place.tree refl at.1 (omega arith))
+        (All-append In (values_of_visit sorts parts true place.sort place.start v) (map (λ u. b.Kid s u v) (range_with_len 1 (v - 1)))
+        (values_in sorts parts In true place.sort place.start v (λ x less. omega arith))
+        (All-map In (λ u. b.Kid s u v) (range_with_len 1 (v - 1)) (in_range (λ u. In (b.Kid s u v)) 1 (v - 1) (λ u low less. kid_in s u v there (omega arith) le))))
 
-  pub given_in : (s v : ℕ) → s < length (symbols_of sorts p) → v ≤ visits_of parts (symbol_at sorts p s).sort → All In (given_back sorts parts (symbol_at sorts p s) s v)
-  given_in s v there le =
-      let place = symbol_at sorts p s in
-      let at = place_at s there in
-      let within = at.0 in
-      let n = visits_of parts place.sort in
-      All-append In (values_of_visit sorts parts false place.sort place.start v) (map (λ w. b.Kid s v w) (range_with_len (v + 1) (n - v)))
-      (values_in sorts parts In false place.sort place.start v (λ x less. omega arith))
-      (All-map In (λ w. b.Kid s v w) (range_with_len (v + 1) (n - v)) (in_range (λ w. In (b.Kid s v w)) (v + 1) (n - v) (λ w low less. kid_in s v w there le (omega arith))))
+    given_in : (s v : ℕ) → s < length (symbols_of sorts p) → v ≤ visits_of parts (symbol_at sorts p s).sort → All In (given_back sorts parts (symbol_at sorts p s) s v)
+    given_in s v there le =
+        let place = symbol_at sorts p s in
+        let at = place_at s there in
+        let within = at.0 in
+        let n = visits_of parts place.sort in
+        All-append In (values_of_visit sorts parts false place.sort place.start v) (map (λ w. b.Kid s v w) (range_with_len (v + 1) (n - v)))
+        (values_in sorts parts In false place.sort place.start v (λ x less. omega arith))
+        (All-map In (λ w. b.Kid s v w) (range_with_len (v + 1) (n - v)) (in_range (λ w. In (b.Kid s v w)) (v + 1) (n - v) (λ w low less. kid_in s v w there le (omega arith))))
 
-  pub reads_in : (o : ℕ) → All In (firsts_of (flat_map equation_needs p.equations) o)
-  reads_in o =
-      let front = all_front (IsNeedWithin total) (flat_map equation_needs p.equations) (flat_map (tree_needs sorts) (places_of sorts p)) (needs_within sorts prods p right) in
-      All-map In (λ (n : Need). b.Value n.first) (filter (λ (n : Need). n.then == o) (flat_map equation_needs p.equations))
-      (All-filter (λ (n : Need). n.then == o) (λ (n : Need). In (b.Value n.first)) (flat_map equation_needs p.equations)
-      (All-weaker (IsNeedWithin total) (λ (n : Need). In (b.Value n.first)) (λ n h. h.0) (flat_map equation_needs p.equations) front))
+    -- and needs are of occurrences
+    module _ (below : All (IsNeedBelow (length (occurrences_of sorts p))) (needs_of sorts p)) where
+      reads_in : (o : ℕ) → All In (firsts_of (flat_map equation_needs p.equations) o)
+      reads_in o =
+          let front = all_front (IsNeedBelow total) (flat_map equation_needs p.equations) (flat_map (tree_needs sorts) (places_of sorts p)) below in
+          All-map In (λ (n : Need). b.Value n.first) (filter (λ (n : Need). n.then == o) (flat_map equation_needs p.equations))
+          (All-filter (λ (n : Need). n.then == o) (λ (n : Need). In (b.Value n.first)) (flat_map equation_needs p.equations)
+          (All-weaker (IsNeedBelow total) (λ (n : Need). In (b.Value n.first)) (λ n h. h.0) (flat_map equation_needs p.equations) front))
 
-  -- what an action needs and makes
-  abbrev pub IsActionIn : Action → Type 0
-  IsActionIn x = All In (needs sorts parts p x) × All In (makes sorts parts p x)
-
-  pub actions_in : All IsActionIn (actions_of sorts parts p)
-  actions_in =
-      All-append IsActionIn (map a.Eval (filter (is_defined (occurrences_of sorts p)) (range_with_len 0 total))) (flat_map (visits_at sorts parts p) (range_with_len 0 (length (symbols_of sorts p))))
-      (All-map IsActionIn a.Eval (filter (is_defined (occurrences_of sorts p)) (range_with_len 0 total))
-      (All-filter (is_defined (occurrences_of sorts p)) (λ o. IsActionIn (a.Eval o)) (range_with_len 0 total)
-      (in_range (λ o. IsActionIn (a.Eval o)) 0 total (λ o low less. (reads_in o, All-cons In (b.Value o) [] (omega arith) (All-nil In))))))
-      (all_flat (visits_at sorts parts p) IsActionIn (range_with_len 0 (length (symbols_of sorts p)))
-      (in_range (λ s. All IsActionIn (visits_at sorts parts p s)) 0 (length (symbols_of sorts p))
-      (λ s low less.
-      let n = visits_of parts (symbol_at sorts p s).sort in
-      let there : s < length (symbols_of sorts p) = omega arith in
-      All-map IsActionIn (a.Visit s) (range_with_len 1 n)
-      (in_range (λ v. IsActionIn (a.Visit s v)) 1 n (λ v one le. (taken_in s v there (omega arith), given_in s v there (omega arith)))))))
+      pub actions_in : All IsActionIn (actions_of sorts parts p)
+      actions_in =
+          All-append IsActionIn (map a.Eval (filter (is_defined (occurrences_of sorts p)) (range_with_len 0 total))) (flat_map (visits_at sorts parts p) (range_with_len 0 (length (symbols_of sorts p))))
+          (All-map IsActionIn a.Eval (filter (is_defined (occurrences_of sorts p)) (range_with_len 0 total))
+          (All-filter (is_defined (occurrences_of sorts p)) (λ o. IsActionIn (a.Eval o)) (range_with_len 0 total)
+          (in_range (λ o. IsActionIn (a.Eval o)) 0 total (λ o low less. (reads_in o, All-cons In (b.Value o) [] (omega arith) (All-nil In))))))
+          (all_flat (visits_at sorts parts p) IsActionIn (range_with_len 0 (length (symbols_of sorts p)))
+          (in_range (λ s. All IsActionIn (visits_at sorts parts p s)) 0 (length (symbols_of sorts p))
+          (λ s low less.
+          let n = visits_of parts (symbol_at sorts p s).sort in
+          let there : s < length (symbols_of sorts p) = omega arith in
+          All-map IsActionIn (a.Visit s) (range_with_len 1 n)
+          (in_range (λ v. IsActionIn (a.Visit s v)) 1 n (λ v one le. (taken_in s v there (omega arith), given_in s v there (omega arith)))))))
 
   -- extended dependencies are of occurrences
-  ordered_in : (place : Place) → IsWithin sorts total place → All (IsNeedWithin total) (ordered_at sorts parts place)
+  ordered_in : (place : Place) → IsWithin sorts total place → All (IsNeedBelow total) (ordered_at sorts parts place)
   ordered_in place within =
       let count = length (attrs_of_sort sorts place.sort) in
-      all_flat (λ x. map (λ y. need (place.start + x) (place.start + y)) (filter (comes_before parts place.sort x) (range_with_len 0 count))) (IsNeedWithin total) (range_with_len 0 count)
-      (in_range (λ x. All (IsNeedWithin total) (map (λ y. need (place.start + x) (place.start + y)) (filter (comes_before parts place.sort x) (range_with_len 0 count)))) 0 count
+      all_flat (λ x. map (λ y. need (place.start + x) (place.start + y)) (filter (comes_before parts place.sort x) (range_with_len 0 count))) (IsNeedBelow total) (range_with_len 0 count)
+      (in_range (λ x. All (IsNeedBelow total) (map (λ y. need (place.start + x) (place.start + y)) (filter (comes_before parts place.sort x) (range_with_len 0 count)))) 0 count
       (λ x low less.
-      All-map (IsNeedWithin total) (λ y. need (place.start + x) (place.start + y)) (filter (comes_before parts place.sort x) (range_with_len 0 count))
-      (All-filter (comes_before parts place.sort x) (λ y. IsNeedWithin total (need (place.start + x) (place.start + y))) (range_with_len 0 count)
-      (in_range (λ y. IsNeedWithin total (need (place.start + x) (place.start + y))) 0 count (λ y low2 less2. (omega arith, omega arith))))))
+      All-map (IsNeedBelow total) (λ y. need (place.start + x) (place.start + y)) (filter (comes_before parts place.sort x) (range_with_len 0 count))
+      (All-filter (comes_before parts place.sort x) (λ y. IsNeedBelow total (need (place.start + x) (place.start + y))) (range_with_len 0 count)
+      (in_range (λ y. IsNeedBelow total (need (place.start + x) (place.start + y))) 0 count (λ y low2 less2. (omega arith, omega arith))))))
 
-  pub extended_within : All (IsNeedWithin total) (extended_of sorts parts p)
-  extended_within =
-      All-append (IsNeedWithin total) (needs_of sorts p) (flat_map (ordered_at sorts parts) (places_of sorts p)) (needs_within sorts prods p right)
-      (all_flat (ordered_at sorts parts) (IsNeedWithin total) (places_of sorts p)
-      (All-weaker (IsWithin sorts total) (λ place. All (IsNeedWithin total) (ordered_at sorts parts place)) ordered_in (places_of sorts p) (places_within sorts p)))
+  -- where needs are of occurrences
+  module _ (below : All (IsNeedBelow (length (occurrences_of sorts p))) (needs_of sorts p)) where
+    pub extended_within : All (IsNeedBelow total) (extended_of sorts parts p)
+    extended_within =
+        All-append (IsNeedBelow total) (needs_of sorts p) (flat_map (ordered_at sorts parts) (places_of sorts p)) below
+        (all_flat (ordered_at sorts parts) (IsNeedBelow total) (places_of sorts p)
+        (All-weaker (IsWithin sorts total) (λ place. All (IsNeedBelow total) (ordered_at sorts parts place)) ordered_in (places_of sorts p) (places_within sorts p)))
 
-  pub extended_in : All (λ (n : Need). n.then < total) (extended_of sorts parts p)
-  extended_in = All-weaker (IsNeedWithin total) (λ (n : Need). n.then < total) (λ n h. h.1) (extended_of sorts parts p) extended_within
+    pub extended_in : All (λ (n : Need). n.then < total) (extended_of sorts parts p)
+    extended_in = All-weaker (IsNeedBelow total) (λ (n : Need). n.then < total) (λ n h. h.1) (extended_of sorts parts p) extended_within
 
 pub production_is_right : (g : Grammar) → IsTrue (is_well_formed g) → (p : Production) → Contains g.prods p → is_production_right g.sorts g.prods p ≡ true
 production_is_right g well p there = All-contains (λ q. is_production_right g.sorts g.prods q ≡ true) g.prods p (production_right g well) there

@@ -8,6 +8,7 @@ pub mod SegmentLemmas
 pub mod GainLemmas
 pub mod InLemmas
 pub mod BindingLemmas
+pub mod SiteLemmas
 pub mod FewLemmas
 pub mod ReadLemmas
 pub mod ListedLemmas

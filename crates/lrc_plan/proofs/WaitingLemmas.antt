@@ -4,28 +4,45 @@ use Rattle.std.specs.Prelude.{filter, flat_map}
 use Rattle.std.specs.List.{range_with_len}
 use Rattle.std.specs.Option.{option_map_or}
 use Rattle.std.proofs.lemmas.Option.{slice_get-get_or}
-use Rattle.std.proofs.lemmas.List.{map-append, get_or_default}
+use Rattle.std.proofs.lemmas.List.{map-append, get_or_default, get_or-map, length-map}
 use Rattle.std.proofs.lemmas.Simd.{map-map}
 use Rattle.std.proofs.lemmas.List.FromFn.{get_or-map-range_with_len}
 use Rattle.lrc_base.specs.declared.grammar.Sort.{Sort}
 use Rattle.lrc_base.specs.declared.grammar.Production.{Production}
+use Rattle.lrc_base.specs.declared.signature.Occurrence as signed
+use Rattle.lrc_base.specs.declared.signature.Signature.{Signature}
 use Rattle.lrc_meaning.specs.Grammar.{Occurrence, occurrences_of}
+use Rattle.lrc_meaning.specs.Signature.{role_of, signature_of}
+use Rattle.lrc_meaning.proofs.SignatureLemmas.{signed_roles, signed_count}
 use Rattle.lrc_order_meaning.specs.declared.Partition.{Partition}
-use Rattle.lrc_order_meaning.specs.declared.Place.{Place}
-use Rattle.lrc_order_meaning.specs.Needs.{symbols_of, left_place, equation_needs}
+use Rattle.lrc_order_meaning.specs.Needs.{symbols_of, equation_needs}
 use Rattle.lrc_plan_meaning.specs.declared.Action.TheVariants as a
 use Rattle.lrc_plan_meaning.specs.declared.Bound.{Bound}
 use Rattle.lrc_plan_meaning.specs.declared.Bound.TheVariants as item
-use Rattle.lrc_plan_meaning.specs.Items.{visits_of, symbol_at, firsts_of, extended_of}
+use Rattle.lrc_plan_meaning.specs.Items.{firsts_of, extended_of}
 use Rattle.lrc_plan_meaning.specs.Sequences.{is_defined, visits_at, actions_of}
 use Rattle.lrc_plan.specs.declared.waiting.Waiting.{Waiting}
-use Rattle.lrc_plan.specs.Waiting.{waiting_of, waiting_evaluation, waiting_visit}
+use Rattle.lrc_plan.specs.Waiting.{waiting_of, waiting_evaluation}
 use Rattle.lrc_plan.proofs.VisitLemmas.{passed, passed_same}
 use Rattle.lrc_plan.proofs.ListLemmas.{map_flat}
 
 pub defined_at : (occurrences : List Occurrence) (i : ℕ) (x : Occurrence) → i < length occurrences → x ≡ get_or occurrences i x → is_defined occurrences i ≡ x.is_defined
 defined_at occurrences i x there is =
     ap (λ found. option_map_or (λ (o : Occurrence). o.is_defined) found false) (slice_get-get_or occurrences i x there ∙ ap Some (sym is))
+
+-- what is told of the occurrences of a signature
+pub role_defined : (occurrences : List signed.Occurrence) (i : ℕ) (x : signed.Occurrence) → i < length occurrences → x ≡ get_or occurrences i x
+    → is_defined (map role_of occurrences) i ≡ x.is_defined
+role_defined occurrences i x there is =
+    let count = length-map occurrences role_of in
+    defined_at (map role_of occurrences) i (role_of x) (omega arith) (ap role_of is ∙ sym (get_or-map role_of occurrences i x (role_of x) there))
+
+module _ (sorts : List Sort) (p : Production) (signature : Signature) (is : signature ≡ signature_of sorts p) (occurrences : List signed.Occurrence) (are : occurrences ≡ signature.occurrences) where
+  pub roles_are : map role_of occurrences ≡ occurrences_of sorts p
+  roles_are = ap (map role_of) are ∙ ap (λ (s : Signature). map role_of s.occurrences) is ∙ signed_roles sorts p
+
+  pub count_is : length occurrences ≡ length (occurrences_of sorts p)
+  count_is = ap length are ∙ ap (λ (s : Signature). length s.occurrences) is ∙ signed_count sorts p
 
 pub evaluation_made : (needs awaits : List (List Bound)) (o : ℕ) (needed awaited : List Bound) → o < length needs → o < length awaits
     → needed ≡ get_or needs o needed → awaited ≡ get_or awaits o awaited
@@ -37,17 +54,6 @@ evaluation_made needs awaits o needed awaited one other n w =
     ∙ ap (λ (list : List Bound). record { step = record { action = a.Eval o; needs = get_or needs o []; makes = item.Value o ∷ [] }; awaits = list; checked = 0 }) y
 
 module _ (sorts : List Sort) (parts : List Partition) (p : Production) where
-  pub symbol_found : (symbols : List Place) (s : ℕ) (d : Place) → symbols ≡ symbols_of sorts p → s < length symbols → get_or symbols s d ≡ symbol_at sorts p s
-  symbol_found symbols s d are there =
-      get_or_default symbols s d (left_place p) there ∙ ap (λ (all : List Place). get_or all s (left_place p)) are
-
-  pub visits_wait : (symbols : List Place) (s : ℕ) (d : Place) → symbols ≡ symbols_of sorts p → s < length symbols
-      → map (waiting_visit sorts parts (get_or symbols s d) s) (range_with_len 1 (visits_of parts (get_or symbols s d).sort))
-      ≡ map (waiting_of sorts parts p) (visits_at sorts parts p s)
-  visits_wait symbols s d are there =
-      ap (λ (place : Place). map (waiting_visit sorts parts place s) (range_with_len 1 (visits_of parts place.sort))) (symbol_found symbols s d are there)
-      ∙ sym (map-map (waiting_of sorts parts p) (a.Visit s) (range_with_len 1 (visits_of parts (symbol_at sorts p s).sort)))
-
   abbrev total : ℕ
   total = length (occurrences_of sorts p)
 

@@ -10,7 +10,7 @@ use Rattle.lrc_plan_meaning.specs.declared.Bound.{Bound}
 use Rattle.lrc_plan_meaning.specs.declared.Bound.TheVariants as b
 use Rattle.lrc_plan_meaning.specs.declared.Step.{Step}
 use Rattle.lrc_plan_meaning.specs.Items.{visits_of, values_of_visit}
-use Rattle.lrc_plan.specs.declared.gaining.Shape.{Shape}
+use Rattle.lrc_plan.specs.declared.shape.Shape.{Shape}
 use Rattle.lrc_plan.specs.ItemSets.{Flags, IsSetOf}
 use Rattle.lrc_plan.specs.Handing.{no_items}
 

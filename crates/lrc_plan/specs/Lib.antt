@@ -1,3 +1,4 @@
+pub mod Sites
 pub mod ItemSets
 pub mod Waiting
 pub mod Running

@@ -3,12 +3,11 @@ use Rattle.std.specs.Prelude.{ℕ, List, [], ◌∷◌, slice_index_or}
 use Rattle.lrc_base.specs.declared.grammar.Sort.{Sort}
 use Rattle.lrc_base.specs.declared.grammar.Production.{Production}
 use Rattle.lrc_order_meaning.specs.declared.Partition.{Partition}
-use Rattle.lrc_order_meaning.specs.declared.Place.{Place}
 use Rattle.lrc_plan_meaning.specs.declared.Action.{Action}
 use Rattle.lrc_plan_meaning.specs.declared.Action.TheVariants as a
 use Rattle.lrc_plan_meaning.specs.declared.Bound.{Bound}
 use Rattle.lrc_plan_meaning.specs.declared.Bound.TheVariants as item
-use Rattle.lrc_plan_meaning.specs.Items.{taken, given_back, awaits}
+use Rattle.lrc_plan_meaning.specs.Items.{awaits}
 use Rattle.lrc_plan_meaning.specs.Plans.{step_of}
 use Rattle.lrc_plan.specs.declared.waiting.Waiting.{Waiting}
 
@@ -21,13 +20,5 @@ abbrev pub waiting_evaluation : List (List Bound) → List (List Bound) → ℕ 
 waiting_evaluation needs awaits o = record {
   step = record { action = a.Eval o; needs = slice_index_or needs o []; makes = item.Value o ∷ [] };
   awaits = slice_index_or awaits o [];
-  checked = 0;
-}
-
--- a visit of this symbol
-abbrev pub waiting_visit : List Sort → List Partition → Place → ℕ → ℕ → Waiting
-waiting_visit sorts parts place s v = record {
-  step = record { action = a.Visit s v; needs = taken sorts parts place s v; makes = given_back sorts parts place s v };
-  awaits = taken sorts parts place s v;
   checked = 0;
 }

@@ -1,13 +1,13 @@
 ghost use Rattle.std.specs.Prelude.{◌≡◌, ℕ, ◌+◌, ◌<◌, ◌≤◌, ◌^◌, ◌++◌, [], All, length, map, filter, flat_map, slice_index_or, IfOk, OnOk};
 ghost use Rattle.std.specs.List.{range_with_len};
-ghost use Rattle.lrc_meaning.specs.Grammar.{attrs_of_sort, occurrences_of};
+ghost use Rattle.lrc_meaning.specs.Grammar.{attrs_of_sort};
 ghost use Rattle.lrc_order_meaning.specs.declared.Need as order_need;
-ghost use Rattle.lrc_order_meaning.specs.declared.Place as order;
-ghost use Rattle.lrc_order_meaning.specs.Needs.{need, needs_of, places_of, equation_needs};
+ghost use Rattle.lrc_order_meaning.specs.Needs.{need};
 ghost use Rattle.lrc_plan_meaning.specs.Items.{comes_before, ordered_at, extended_of, firsts_of};
 
 use crate::parts::comes_before;
-use lrc_base::{List, Memory, Production, Sort};
+use crate::site::Site;
+use lrc_base::{List, Memory, Sort};
 use lrc_grammar::attrs_of_sort;
 use lrc_order_meaning::{Need, Partition, Place};
 use lrc_ordered::needs_of;
@@ -55,22 +55,13 @@ fn push_ordered(
     Ok(())
 }
 
-/// The extended dependencies of a production with these places.
-pub fn extended(
-    alloc: Global,
-    sorts: &[Sort],
-    parts: &[Partition],
-    production: &Production,
-    places: &[Place],
-) -> Result<List<Need>, Memory>
-    requires few { length (occurrences_of sorts.now production.now) < 2 ^ 32 }
-    requires within { All (λ (place : order.Place). place.start + length (attrs_of_sort sorts.now place.sort) < 2 ^ 32) places.now }
-    requires places { places.now ≡ places_of sorts.now production.now }
-    ensures { IfOk result (λ pairs. pairs ≡ extended_of sorts.now parts.now production.now) }
+/// The extended dependencies of a production.
+pub fn extended(alloc: Global, site: &Site<'_>) -> Result<List<Need>, Memory>
+    ensures { IfOk result (λ pairs. pairs ≡ extended_of site.now.sorts.now site.now.parts.now site.now.production.now) }
 {
-    let mut pairs = needs_of(alloc, sorts, production, places)?;
-    'places: for place in places {
-        push_ordered(&mut pairs, sorts, parts, *place)?;
+    let mut pairs = needs_of(alloc, site.sorts, site.production, site.places)?;
+    'places: for place in site.places {
+        push_ordered(&mut pairs, site.sorts, site.parts, *place)?;
     }
     Ok(pairs)
 }

@@ -67,19 +67,6 @@ fn is_of(attrs: &[Attr], inherited: bool, attr: u32) -> bool
     }
 }
 
-/// Whether a visit takes an inherited attribute, or gives one that is not.
-pub fn is_of_visit(
-    parts: &[Partition],
-    attrs: &[Attr],
-    inherited: bool,
-    sort: u32,
-    attr: u32,
-    visit: u32,
-) -> bool
-    ensures { result ≡ (is_of attrs.now inherited attr && (visit_of parts.now sort attr == visit)) }
-{
-    is_of(attrs, inherited, attr) && visit_of(parts, sort, attr) == visit
-}
 /// A block of a sort's partition: the inherited attributes that a visit takes, or the synthesised ones
 /// that it gives.
 #[derive(Debug, Clone, Copy)]

@@ -2,31 +2,31 @@ ghost use Rattle.std.specs.Prelude.{◌≡◌, ◌+◌, ◌-◌, ◌<◌, ◌≤
 ghost use Rattle.std.specs.List.{range_with_len};
 ghost use Rattle.lrc_meaning.specs.Grammar.{attrs_of_sort};
 ghost use Rattle.lrc_plan_meaning.specs.declared.Bound.TheVariants as b;
-ghost use Rattle.lrc_plan_meaning.specs.Items.{visits_of, values_of_visit, taken, given_back};
+ghost use Rattle.lrc_order_meaning.specs.Needs.{symbols_of};
+ghost use Rattle.lrc_plan_meaning.specs.Items.{visits_of, values_of_visit, symbol_at, taken, given_back};
 
-use crate::parts::{is_of_visit, visits_of};
-use lrc_base::{List, Memory, Sort};
+use crate::parts::{Block, visits_of};
+use crate::site::Site;
+use lrc_base::{List, Memory};
 use lrc_grammar::attrs_of_sort;
-use lrc_order_meaning::{Partition, Place};
 use lrc_plan_meaning::Bound;
 use std::alloc::Global;
 
-/// Puts the values of a visit's attributes of one direction at a place behind the others.
+/// Puts the values of a block's attributes, where those of its sort start at this occurrence, behind the
+/// others.
 pub fn push_values(
     items: &mut List<Bound>,
-    sorts: &[Sort],
-    parts: &[Partition],
-    inherited: bool,
-    place: Place,
-    visit: u32,
+    site: &Site<'_>,
+    block: Block,
+    start: u32,
 ) -> Result<(), Memory>
-    requires { place.start + length (attrs_of_sort sorts.now place.sort) < 2 ^ 32 }
-    ensures { OnOk result (items.new ≡ items.old ++ values_of_visit sorts.now parts.now inherited place.sort place.start visit) }
+    requires { start + length (attrs_of_sort site.now.sorts.now block.sort) < 2 ^ 32 }
+    ensures { OnOk result (items.new ≡ items.old ++ values_of_visit site.now.sorts.now site.now.parts.now block.inherited block.sort start block.visit) }
 {
-    let attrs = attrs_of_sort(sorts, place.sort);
+    let attrs = attrs_of_sort(site.sorts, block.sort);
     'attributes: for attr in 0..attrs.len() as u32 {
-        if is_of_visit(parts, attrs, inherited, place.sort, attr, visit) {
-            items.push(Bound::Value(place.start + attr))?;
+        if block.has(site.parts, attrs, attr) {
+            items.push(Bound::Value(start + attr))?;
         }
     }
     Ok(())
@@ -54,22 +54,21 @@ fn push_later(items: &mut List<Bound>, symbol: u32, visit: u32, visits: u32) -> 
 }
 
 /// What a visit of a symbol takes.
-pub fn taken(
-    alloc: Global,
-    sorts: &[Sort],
-    parts: &[Partition],
-    place: Place,
-    symbol: u32,
-    visit: u32,
-) -> Result<List<Bound>, Memory>
-    requires { place.start + length (attrs_of_sort sorts.now place.sort) < 2 ^ 32 }
-    ensures { IfOk result (λ items. items ≡ taken sorts.now parts.now place symbol visit) }
+pub fn taken(alloc: Global, site: &Site<'_>, symbol: u32, visit: u32) -> Result<List<Bound>, Memory>
+    requires { symbol < length (symbols_of site.now.sorts.now site.now.production.now) }
+    ensures { IfOk result (λ items. items ≡ taken site.now.sorts.now site.now.parts.now (symbol_at site.now.sorts.now site.now.production.now symbol) symbol visit) }
 {
+    let place = site.symbol(symbol);
     let mut items = List::new(alloc);
     if let Some(tree) = place.tree {
         items.push(Bound::Value(tree))?;
     }
-    push_values(&mut items, sorts, parts, true, place, visit)?;
+    let block = Block {
+        sort: place.sort,
+        visit,
+        inherited: true,
+    };
+    push_values(&mut items, site, block, place.start)?;
     push_earlier(&mut items, symbol, visit)?;
     Ok(items)
 }
@@ -77,17 +76,21 @@ pub fn taken(
 /// What a visit of a symbol gives.
 pub fn given_back(
     alloc: Global,
-    sorts: &[Sort],
-    parts: &[Partition],
-    place: Place,
+    site: &Site<'_>,
     symbol: u32,
     visit: u32,
 ) -> Result<List<Bound>, Memory>
-    requires { place.start + length (attrs_of_sort sorts.now place.sort) < 2 ^ 32 }
-    ensures { IfOk result (λ items. items ≡ given_back sorts.now parts.now place symbol visit) }
+    requires { symbol < length (symbols_of site.now.sorts.now site.now.production.now) }
+    ensures { IfOk result (λ items. items ≡ given_back site.now.sorts.now site.now.parts.now (symbol_at site.now.sorts.now site.now.production.now symbol) symbol visit) }
 {
+    let place = site.symbol(symbol);
+    let block = Block {
+        sort: place.sort,
+        visit,
+        inherited: false,
+    };
     let mut items = List::new(alloc);
-    push_values(&mut items, sorts, parts, false, place, visit)?;
-    push_later(&mut items, symbol, visit, visits_of(parts, place.sort))?;
+    push_values(&mut items, site, block, place.start)?;
+    push_later(&mut items, symbol, visit, visits_of(site.parts, place.sort))?;
     Ok(items)
 }

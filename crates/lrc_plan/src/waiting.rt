@@ -1,21 +1,19 @@
-ghost use Rattle.std.specs.Prelude.{◌≡◌, ℕ, ◌+◌, ◌<◌, ◌≤◌, ◌^◌, ◌++◌, ◌∷◌, [], All, length, map, filter, flat_map, IfOk, OnOk};
+ghost use Rattle.std.specs.Prelude.{◌≡◌, ◌<◌, ◌^◌, ◌++◌, ◌∷◌, [], length, map, filter, flat_map, IfOk, OnOk};
 ghost use Rattle.std.specs.List.{range_with_len};
-ghost use Rattle.lrc_meaning.specs.Grammar.{attrs_of_sort, occurrences_of};
-ghost use Rattle.lrc_order_meaning.specs.declared.Need as order_need;
-ghost use Rattle.lrc_order_meaning.specs.declared.Place as order;
-ghost use Rattle.lrc_order_meaning.specs.Needs.{places_of, symbols_of, equation_needs};
+ghost use Rattle.lrc_meaning.specs.Grammar.{occurrences_of};
+ghost use Rattle.lrc_meaning.specs.Signature.{role_of};
+ghost use Rattle.lrc_order_meaning.specs.Needs.{symbols_of, equation_needs};
 ghost use Rattle.lrc_plan_meaning.specs.declared.Action.TheVariants as a;
 ghost use Rattle.lrc_plan_meaning.specs.declared.Bound.TheVariants as b;
-ghost use Rattle.lrc_plan_meaning.specs.Items.{visits_of, extended_of};
 ghost use Rattle.lrc_plan_meaning.specs.Sequences.{is_defined, visits_at, actions_of};
-ghost use Rattle.lrc_plan.specs.Waiting.{waiting_of, waiting_evaluation, waiting_visit};
+ghost use Rattle.lrc_plan.specs.Waiting.{waiting_of, waiting_evaluation};
 
 use crate::pairs::{extended, firsts};
 use crate::parts::visits_of;
+use crate::site::Site;
 use crate::visits::{given_back, taken};
-use lrc_base::{List, Memory, Production, Sort};
-use lrc_grammar::{Occurrence, occurrences_of};
-use lrc_order_meaning::{Need, Partition, Place};
+use lrc_base::{List, Memory, Occurrence, Production};
+use lrc_order_meaning::Need;
 use lrc_ordered::push_equation_needs;
 use lrc_plan_meaning::{Action, Bound, Step};
 use std::alloc::Global;
@@ -71,10 +69,10 @@ fn push_evaluations(
 ) -> Result<(), Memory>
     requires few { length occurrences.now < 2 ^ 32 }
     requires lists { (length needs.now ≡ length occurrences.now) × (length awaits.now ≡ length occurrences.now) }
-    ensures { OnOk result (waiting.new.items ≡ waiting.old.items ++ map (waiting_evaluation needs.now awaits.now) (filter (is_defined occurrences.now) (range_with_len 0 (length occurrences.now)))) }
+    ensures { OnOk result (waiting.new.items ≡ waiting.old.items ++ map (waiting_evaluation needs.now awaits.now) (filter (is_defined (map role_of occurrences.now)) (range_with_len 0 (length occurrences.now)))) }
 {
     'occurrences: for number in 0..occurrences.len() {
-        if occurrences[number].is_defined() {
+        if occurrences[number].is_defined {
             let (needs, awaits) = (needs[number].as_slice(), awaits[number].as_slice());
             waiting.push(evaluation(alloc, number as u32, needs, awaits)?)?;
         }
@@ -82,45 +80,28 @@ fn push_evaluations(
     Ok(())
 }
 
-/// The evaluations of a production with these places.
-fn evaluations(
-    alloc: Global,
-    sorts: &[Sort],
-    parts: &[Partition],
-    production: &Production,
-    places: &[Place],
-) -> Result<Vec<Waiting>, Memory>
-    requires few { length (occurrences_of sorts.now production.now) < 2 ^ 32 }
-    requires places { places.now ≡ places_of sorts.now production.now }
-    requires within { All (λ (place : order.Place). place.start + length (attrs_of_sort sorts.now place.sort) < 2 ^ 32) places.now }
-    requires pairs { All (λ (n : order_need.Need). n.then < length (occurrences_of sorts.now production.now)) (extended_of sorts.now parts.now production.now) }
-    ensures { IfOk result (λ waiting. waiting.items ≡ map (λ o. waiting_of sorts.now parts.now production.now (a.Eval o)) (filter (is_defined (occurrences_of sorts.now production.now)) (range_with_len 0 (length (occurrences_of sorts.now production.now))))) }
+/// The evaluations of a production.
+fn evaluations(alloc: Global, site: &Site<'_>) -> Result<Vec<Waiting>, Memory>
+    ensures { IfOk result (λ waiting. waiting.items ≡ map (λ o. waiting_of site.now.sorts.now site.now.parts.now site.now.production.now (a.Eval o)) (filter (is_defined (occurrences_of site.now.sorts.now site.now.production.now)) (range_with_len 0 (length (occurrences_of site.now.sorts.now site.now.production.now))))) }
 {
-    let occurrences = occurrences_of(alloc, sorts, production)?;
-    let read = equation_needs(alloc, production)?;
+    let occurrences = site.signature.occurrences.as_slice();
+    let read = equation_needs(alloc, site.production)?;
     let needs = firsts(alloc, read.as_slice(), occurrences.len())?;
-    let pairs = extended(alloc, sorts, parts, production, places)?;
+    let pairs = extended(alloc, site)?;
     let awaits = firsts(alloc, pairs.as_slice(), occurrences.len())?;
     let mut waiting = Vec::new(alloc);
-    push_evaluations(alloc, &mut waiting, occurrences.as_slice(), &needs, &awaits)?;
+    push_evaluations(alloc, &mut waiting, occurrences, &needs, &awaits)?;
     Ok(waiting)
 }
 
 /// A visit of a symbol.
-fn waiting_visit(
-    alloc: Global,
-    sorts: &[Sort],
-    parts: &[Partition],
-    place: Place,
-    symbol: u32,
-    visit: u32,
-) -> Result<Waiting, Memory>
-    requires { place.start + length (attrs_of_sort sorts.now place.sort) < 2 ^ 32 }
-    ensures { IfOk result (λ w. w ≡ waiting_visit sorts.now parts.now place symbol visit) }
+fn waiting_visit(alloc: Global, site: &Site<'_>, symbol: u32, visit: u32) -> Result<Waiting, Memory>
+    requires { symbol < length (symbols_of site.now.sorts.now site.now.production.now) }
+    ensures { IfOk result (λ w. w ≡ waiting_of site.now.sorts.now site.now.parts.now site.now.production.now (a.Visit symbol visit)) }
 {
-    let needs = taken(alloc, sorts, parts, place, symbol, visit)?;
+    let needs = taken(alloc, site, symbol, visit)?;
     let awaits = List::from_slice(alloc, needs.as_slice())?;
-    let makes = given_back(alloc, sorts, parts, place, symbol, visit)?;
+    let makes = given_back(alloc, site, symbol, visit)?;
     Ok(Waiting {
         step: Step {
             action: Action::Visit(symbol, visit),
@@ -136,58 +117,33 @@ fn waiting_visit(
 fn push_visits(
     alloc: Global,
     waiting: &mut Vec<Waiting>,
-    sorts: &[Sort],
-    parts: &[Partition],
-    place: Place,
+    site: &Site<'_>,
     symbol: u32,
 ) -> Result<(), Memory>
-    requires { place.start + length (attrs_of_sort sorts.now place.sort) < 2 ^ 32 }
-    ensures { OnOk result (waiting.new.items ≡ waiting.old.items ++ map (waiting_visit sorts.now parts.now place symbol) (range_with_len 1 (visits_of parts.now place.sort))) }
+    requires { symbol < length (symbols_of site.now.sorts.now site.now.production.now) }
+    ensures { OnOk result (waiting.new.items ≡ waiting.old.items ++ map (waiting_of site.now.sorts.now site.now.parts.now site.now.production.now) (visits_at site.now.sorts.now site.now.parts.now site.now.production.now symbol)) }
 {
-    'visits: for earlier in 0..visits_of(parts, place.sort) {
-        waiting.push(waiting_visit(alloc, sorts, parts, place, symbol, earlier + 1)?)?;
+    'visits: for earlier in 0..visits_of(site.parts, site.symbol(symbol).sort) {
+        waiting.push(waiting_visit(alloc, site, symbol, earlier + 1)?)?;
     }
     Ok(())
 }
 
 /// Puts all visits of all symbols behind the others.
-fn push_all_visits(
-    alloc: Global,
-    waiting: &mut Vec<Waiting>,
-    sorts: &[Sort],
-    parts: &[Partition],
-    production: &Production,
-    symbols: &[Place],
-) -> Result<(), Memory>
-    requires few { length symbols.now < 2 ^ 32 }
-    requires symbols { symbols.now ≡ symbols_of sorts.now production.now }
-    requires within { All (λ (place : order.Place). place.start + length (attrs_of_sort sorts.now place.sort) < 2 ^ 32) symbols.now }
-    ensures { OnOk result (waiting.new.items ≡ waiting.old.items ++ flat_map (λ s. map (waiting_of sorts.now parts.now production.now) (visits_at sorts.now parts.now production.now s)) (range_with_len 0 (length (symbols_of sorts.now production.now)))) }
+fn push_all_visits(alloc: Global, waiting: &mut Vec<Waiting>, site: &Site<'_>) -> Result<(), Memory>
+    ensures { OnOk result (waiting.new.items ≡ waiting.old.items ++ flat_map (λ s. map (waiting_of site.now.sorts.now site.now.parts.now site.now.production.now) (visits_at site.now.sorts.now site.now.parts.now site.now.production.now s)) (range_with_len 0 (length (symbols_of site.now.sorts.now site.now.production.now)))) }
 {
-    'symbols: for symbol in 0..symbols.len() {
-        push_visits(alloc, waiting, sorts, parts, symbols[symbol], symbol as u32)?;
+    'symbols: for symbol in 0..site.symbols().len() as u32 {
+        push_visits(alloc, waiting, site, symbol)?;
     }
     Ok(())
 }
 
 /// All actions of a production, the least first.
-pub fn waiting_actions(
-    alloc: Global,
-    sorts: &[Sort],
-    parts: &[Partition],
-    production: &Production,
-    places: &[Place],
-    symbols: &[Place],
-) -> Result<Vec<Waiting>, Memory>
-    requires few { length (occurrences_of sorts.now production.now) < 2 ^ 32 }
-    requires places { places.now ≡ places_of sorts.now production.now }
-    requires within { All (λ (place : order.Place). place.start + length (attrs_of_sort sorts.now place.sort) < 2 ^ 32) places.now }
-    requires pairs { All (λ (n : order_need.Need). n.then < length (occurrences_of sorts.now production.now)) (extended_of sorts.now parts.now production.now) }
-    requires few_symbols { length symbols.now < 2 ^ 32 }
-    requires symbols { symbols.now ≡ symbols_of sorts.now production.now }
-    ensures { IfOk result (λ waiting. waiting.items ≡ map (waiting_of sorts.now parts.now production.now) (actions_of sorts.now parts.now production.now)) }
+pub fn waiting_actions(alloc: Global, site: &Site<'_>) -> Result<Vec<Waiting>, Memory>
+    ensures { IfOk result (λ waiting. waiting.items ≡ map (waiting_of site.now.sorts.now site.now.parts.now site.now.production.now) (actions_of site.now.sorts.now site.now.parts.now site.now.production.now)) }
 {
-    let mut waiting = evaluations(alloc, sorts, parts, production, places)?;
-    push_all_visits(alloc, &mut waiting, sorts, parts, production, symbols)?;
+    let mut waiting = evaluations(alloc, site)?;
+    push_all_visits(alloc, &mut waiting, site)?;
     Ok(waiting)
 }

@@ -4,7 +4,12 @@ use Rattle.std.proofs.lemmas.List.{take_all}
 use Rattle.lrc_plan_meaning.specs.declared.Step.{Step}
 use Rattle.lrc_plan_meaning.specs.Items.{values_of_visit}
 use Rattle.lrc_plan.proofs.GainLemmas.{Grows, grows_twice, set_of, steps_more}
+use Rattle.lrc_plan.proofs.SiteLemmas.{values_fit}
 use Rattle.lrc_plan.proofs.gaining.gained.Goals as goal
+
+pub insert_values-requires : goal.insert_values-requires
+insert_values-requires c =
+    let site = c.args.site.now in values_fit site.sorts.now site.parts.now site.production.now c.args.shape.now c.requires.shape c.in_ok-set.set c.in_ok-set.ensures.room true c.args.visit
 
 pub steps-preserved : goal.steps-preserved
 steps-preserved c = record {
@@ -17,7 +22,7 @@ pub returns : goal.returns
 returns c =
     let end = c.steps-test.false in
     let steps = c.args.steps.now in
-    let values = values_of_visit c.args.sorts.now c.args.parts.now true c.args.left 0 c.args.visit in
+    let values = values_of_visit c.args.site.now.sorts.now c.args.site.now.parts.now true c.args.site.now.production.now.left 0 c.args.visit in
     let f = c.in_ok-set.set in
     let g = c.insert_values.new.set in
     let h = c.steps.set in

@@ -5,4 +5,6 @@ use Rattle.lrc_plan_meaning.specs.Items.{ordered_at}
 use Rattle.lrc_plan.proofs.pairs.extended.Given as goal
 
 abbrev pub invariant-places : goal.invariant-places
-invariant-places l = l.pairs ≡ needs_of l.sorts l.production ++ flat_map (ordered_at l.sorts l.parts) (take l.place-index l.places)
+invariant-places l =
+    let site = l.site in
+    l.pairs ≡ needs_of site.sorts.now site.production.now ++ flat_map (ordered_at site.sorts.now site.parts.now) (take l.place-index site.places.now)

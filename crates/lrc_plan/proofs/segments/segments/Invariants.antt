@@ -7,5 +7,5 @@ abbrev pub invariant-visits : goal.invariant-visits
 invariant-visits l = record {
   left : IsLeft l.available l.left.items;
   room : (x : sequence.Bound) → HasRoom l.initial.available x → HasRoom l.available x;
-  found : FoundSo l.sorts l.parts l.production l.left.items l.available l.segments l.earlier;
+  found : FoundSo l.site.sorts.now l.site.parts.now l.site.production.now l.left.items l.available l.segments l.earlier;
 }

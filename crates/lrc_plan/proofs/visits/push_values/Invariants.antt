@@ -3,4 +3,4 @@ use Rattle.lrc_plan.proofs.VisitLemmas.{values_below}
 use Rattle.lrc_plan.proofs.visits.push_values.Given as goal
 
 abbrev pub invariant-attributes : goal.invariant-attributes
-invariant-attributes l = l.items ≡ l.initial.items ++ values_below l.parts l.attrs l.inherited l.place.sort l.place.start l.visit l.attr
+invariant-attributes l = l.items ≡ l.initial.items ++ values_below l.site.parts.now l.attrs l.block.inherited l.block.sort l.start l.block.visit l.attr

@@ -7,6 +7,7 @@ use Rattle.lrc_plan.proofs.waiting.push_all_visits.Given as goal
 
 abbrev pub invariant-symbols : goal.invariant-symbols
 invariant-symbols l =
-    l.waiting.items
-    ≡ l.initial.waiting.items
-    ++ flat_map (λ s. map (waiting_of l.sorts l.parts l.production) (visits_at l.sorts l.parts l.production s)) (range_with_len 0 l.symbol)
+    let sorts = l.site.sorts.now in
+    let parts = l.site.parts.now in
+    let p = l.site.production.now in
+    l.waiting.items ≡ l.initial.waiting.items ++ flat_map (λ s. map (waiting_of sorts parts p) (visits_at sorts parts p s)) (range_with_len 0 l.symbol)
