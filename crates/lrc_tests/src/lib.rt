@@ -9,6 +9,8 @@ mod brackets;
 #[cfg(test)]
 mod command_line;
 #[cfg(test)]
+mod functions;
+#[cfg(test)]
 mod grammars;
 #[cfg(test)]
 mod jobs;
