@@ -1,6 +1,6 @@
 -- An expression of a kind, over values and children of theirs, has a value, and it is of the kind.
 use Rattle.std.proofs.Common.{◌≡◌, ℕ, zero, suc, ◌<◌, ◌≤◌, ℤ, Bool, true, false, ◌&&◌, List, [], ◌∷◌, ◌++◌, length, refl, sym, ◌∙◌, ap, subst, arith, Option, Some, None, Contains, IsSome, IsTrue, cond}
-use Rattle.std.specs.Prelude.{slice_get, option_map, option_and_then, Result, Ok, Err}
+use Rattle.std.specs.Prelude.{slice_get, option_map, option_and_then, Result, Ok, Err, IsErr}
 use Rattle.std.specs.Option.{option_map_or}
 use Rattle.std.proofs.lemmas.Bool.{false≢true, and_parts}
 use Rattle.std.proofs.lemmas.Option.{none-some, same_Some, slice_get_within}
@@ -76,6 +76,7 @@ number-kinds gives a b kind e = over (common_kind a b) refl e where
       let both = common-kinds a b x f in
       (both.0 ∙ int_kind, both.1 ∙ int_kind, same_Some gives kind h)
   at x f false g h = absurd (none-some kind h)
+
   over : (c : Option Kind) → common_kind a b ≡ c → of_kind k.Int gives c ≡ Some kind → (a ≡ Some k.Int) × (b ≡ Some k.Int) × (gives ≡ kind)
   over None f h = absurd (none-some kind h)
   over (Some x) f h = at x f (same_kind x k.Int) refl h
@@ -113,6 +114,7 @@ make-kinds prods p kind test e = over (slice_get prods p) refl e where
   at : (q : Production) → slice_get prods p ≡ Some q → (b : Bool) → test q.kids ≡ b → cond b (Some (k.Sort q.left)) None ≡ Some kind → Made prods p kind test
   at q f true g h = record { production = q; is_there = f; children = g; left = same_Some (k.Sort q.left) kind h }
   at q f false g h = absurd (none-some kind h)
+
   over : (found : Option Production) → slice_get prods p ≡ found → option_and_then (λ (q : Production). cond (test q.kids) (Some (k.Sort q.left)) None) found ≡ Some kind → Made prods p kind test
   over None f h = absurd (none-some kind h)
   over (Some q) f h = at q f (test q.kids) refl h
@@ -169,15 +171,17 @@ module _ (prods : List Production) (occurrences : List Occurrence) (x : Inputs) 
       HasKind prods (value_in a) k.Int → HasKind prods (value_in b) k.Int → HasKind prods (value_in (binary op a b)) kind
   of-numbers op a b gives kind f is of e (p, pe, pk) (q, qe, qk) =
       let i = int-tree prods p pk in
-      let j = int-tree prods q qk in
-      (f i.0 j.0,
+      let j = int-tree prods q qk in (
+        f i.0 j.0,
         operated-is op a b p q pe qe ∙ ap (λ u. operated op u q) i.1 ∙ ap (operated op (int i.0)) j.1 ∙ is i.0 j.0,
-        of i.0 j.0 ∙ ap (λ (z : Kind). Some z) e)
+        of i.0 j.0 ∙ ap (λ (z : Kind). Some z) e,
+      )
 
   of-choice : (c a b : Expression) (kind : Kind) → HasKind prods (value_in c) k.Bool → HasKind prods (value_in a) kind → HasKind prods (value_in b) kind → HasKind prods (value_in (choice c a b)) kind
   of-choice c a b kind (p, pe, pk) one other = over (bool-tree prods p pk) where
     is : (d : Bool) → p ≡ bool d → value_in (choice c a b) ≡ chosen d (value_in a) (value_in b)
     is d e = ap (option_and_then (λ u. option_and_then (λ t. chosen t (value_in a) (value_in b)) (bool_in u))) (pe ∙ ap (λ (t : Tree). Some t) e)
+
     over : (d : Bool) × (p ≡ bool d) → HasKind prods (value_in (choice c a b)) kind
     over (true, e) = (one.0, is true e ∙ one.1, one.2)
     over (false, e) = (other.0, is false e ∙ other.1, other.2)
@@ -274,5 +278,6 @@ to-value s t prods x e kind value (tree, is, of) h =
       of_kind = (h.found.0, h.found.2, ap (kind_of prods) (same_Some h.found.0 tree (sym h.found.1 ∙ is)) ∙ of);
     }
 
-pub to-full : (s t : Standing) (prods : List Production) (x : Inputs) (e : Expression) (kind : Kind) (fault : Full) → Evaluates s t x e (Err fault) → EvaluatesTo s t prods x e kind (Err fault)
-to-full s t prods x e kind fault h = record { evaluates = h; of_kind = tt }
+pub to-full : (s t : Standing) (prods : List Production) (x : Inputs) (e : Expression) (kind : Kind) (fault : Full) (answer : Result Val Full) → Evaluates s t x e (Err fault) → IsErr answer → EvaluatesTo s t prods x e kind answer
+to-full s t prods x e kind fault (Ok value) h err = absurd (false≢true err)
+to-full s t prods x e kind fault (Err other) h err = record { evaluates = record { adds = h.adds; found = tt; seen = tt; full = h.full }; of_kind = tt }
