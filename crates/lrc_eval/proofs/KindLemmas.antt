@@ -1,5 +1,5 @@
 -- An expression of a kind, over values and children of theirs, has a value, and it is of the kind.
-use Rattle.std.proofs.Common.{◌≡◌, ℕ, zero, suc, ◌<◌, ◌≤◌, ℤ, Bool, true, false, ◌&&◌, List, [], ◌∷◌, ◌++◌, length, refl, sym, ◌∙◌, ap, subst, arith, Option, Some, None, Contains, IsSome, IsTrue, cond}
+use Rattle.std.proofs.Common.{◌≡◌, ℕ, zero, suc, ◌≤◌, ℤ, Bool, true, false, List, [], ◌∷◌, ◌++◌, length, refl, sym, ◌∙◌, ap, subst, arith, Option, Some, None, Contains, IsSome, IsTrue, cond}
 use Rattle.std.specs.Prelude.{slice_get, option_map, option_and_then, Result, Ok, Err, IsErr}
 use Rattle.std.specs.Option.{option_map_or}
 use Rattle.std.proofs.lemmas.Bool.{false≢true, and_parts}
@@ -11,7 +11,7 @@ use Rattle.lrc_base.specs.declared.grammar.Kid.{Kid}
 use Rattle.lrc_base.specs.declared.grammar.Production.{Production}
 use Rattle.lrc_base.specs.declared.expr.Op.{Op}
 use Rattle.lrc_base.specs.declared.expr.Op.TheVariants as o
-use Rattle.lrc_meaning.specs.Tree.{Tree, Trees, int, bool, name, node, none, more, same_kind, is_sort, kind_of, in_order}
+use Rattle.lrc_meaning.specs.Tree.{Tree, Trees, int, bool, name, node, none, more, same_kind, is_sort, kind_of}
 use Rattle.lrc_meaning.specs.Expression.{Expression, literal, occurrence, leaf, binary, choice, make, Expressions, no_more, and_more, bool_in, operated, chosen, value_of, values_of}
 use Rattle.lrc_meaning.specs.Grammar.{Occurrence, read_kind, leaf_kind, of_kind, common_kind, operated_kind, expression_kind, have_kinds}
 use Rattle.lrc_meaning.proofs.KindLemmas.{one_kind}

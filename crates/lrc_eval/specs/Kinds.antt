@@ -1,9 +1,9 @@
 -- Expressions whose kinds are right, which have a value of their kind.
-use Rattle.std.specs.Prelude.{ℕ, ◌≡◌, ◌≤◌, List, length, Option, Some, None, Contains, IsTrue, slice_get, Result, Ok, Err, IfOk}
+use Rattle.std.specs.Prelude.{ℕ, ◌≡◌, ◌≤◌, List, length, Option, Some, Contains, IsTrue, slice_get, Result, Ok, Err, IfOk}
 use Rattle.lrc_base.specs.declared.grammar.Kind.{Kind}
 use Rattle.lrc_base.specs.declared.grammar.Production.{Production}
 use Rattle.lrc_meaning.specs.Tree.{Tree, kind_of}
-use Rattle.lrc_meaning.specs.Expression.{Expression, value_of}
+use Rattle.lrc_meaning.specs.Expression.{Expression}
 use Rattle.lrc_meaning.specs.Grammar.{Occurrence, read_kind, expression_kind}
 use Rattle.lrc_order_meaning.specs.Needs.{reads}
 use Rattle.lrc_visit_meaning.specs.Visits.{are_of_kinds}
@@ -12,7 +12,7 @@ use Rattle.lrc_store.specs.declared.cells.Handle.{Handle}
 use Rattle.lrc_store.specs.declared.stores.Full.{Full}
 use Rattle.lrc_eval.specs.declared.values.Val.{Val}
 use Rattle.lrc_eval.specs.Values.{IsMeant}
-use Rattle.lrc_eval.specs.Evaluating.{Inputs, leaves, IsSet, IsNode, Evaluates}
+use Rattle.lrc_eval.specs.Evaluating.{Inputs, IsSet, IsNode, Evaluates}
 
 -- there is such a tree, of this kind
 abbrev pub HasKind : List Production → Option Tree → Kind → Type 0
