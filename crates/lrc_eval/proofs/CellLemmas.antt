@@ -1,11 +1,11 @@
 -- Cells of what is built, stores that gain them, and the children of a node.
-use Rattle.std.proofs.Common.{◌≡◌, ◌⊎◌, inl, inr, ℕ, zero, suc, List, [], ◌∷◌, ◌++◌, refl, sym, ◌∙◌, ap, subst, arith, Option, Some, None, Contains}
-use Rattle.std.specs.Prelude.{flat_map, slice_get}
+use Rattle.std.proofs.Common.{◌≡◌, ◌⊎◌, inl, inr, ℕ, zero, suc, List, [], ◌∷◌, ◌++◌, sym, ◌∙◌, ap, subst, arith, Option, Some, None, Contains}
+use Rattle.std.specs.Prelude.{slice_get}
 use Rattle.std.proofs.lemmas.List.Elements.{Contains-append_left, Contains-append_right, Contains-append_cases}
 use Rattle.std.proofs.lemmas.Grind.{flat_map-append}
 use Rattle.std.proofs.lemmas.Option.{same_Some}
 use Rattle.lrc_meaning.specs.Tree.{Tree, Trees, none, more, in_order}
-use Rattle.lrc_store.specs.Cells.{CellTree, pair, parts, IsWithin}
+use Rattle.lrc_store.specs.Cells.{CellTree, parts, IsWithin}
 use Rattle.lrc_store.specs.Standing.{Standing, Told}
 use Rattle.lrc_store.specs.Words.{Grows, Adds}
 use Rattle.lrc_store.proofs.Lasting.{adds-then, adds-more}

@@ -1,21 +1,20 @@
 -- What is answered of an expression, from what is answered of its parts.
-use Rattle.std.proofs.Common.{◌≡◌, ◌⊎◌, inl, inr, ℕ, zero, suc, ◌<◌, ◌≤◌, ℤ, Bool, true, false, List, [], ◌∷◌, ◌++◌, length, refl, sym, ◌∙◌, ap, subst, arith, Option, Some, None, IsSome, cond}
-use Rattle.std.specs.Prelude.{Result, Ok, Err, IsErr, IfSome, slice_get, slice_index_or, option_map, option_and_then}
+use Rattle.std.proofs.Common.{◌≡◌, ◌⊎◌, inl, inr, ℕ, zero, suc, ◌<◌, ℤ, Bool, true, false, List, [], ◌∷◌, ◌++◌, length, refl, sym, ◌∙◌, ap, subst, Option, Some, None, cond}
+use Rattle.std.specs.Prelude.{Result, Ok, Err, IsErr, IfSome, slice_get, slice_index_or, option_and_then}
 use Rattle.std.specs.Option.{option_map_or}
 use Rattle.std.proofs.lemmas.Bool.{false≢true}
 use Rattle.std.proofs.lemmas.Option.{same_Some, slice_get_within}
 use Rattle.lrc_base.specs.declared.expr.Op.{Op}
-use Rattle.lrc_meaning.specs.Tree.{Tree, Trees, int, bool, name, node}
-use Rattle.lrc_meaning.specs.Expression.{Expression, literal, occurrence, leaf, binary, choice, make, Expressions, no_more, and_more, bool_in, operated, chosen, value_of, values_of}
-use Rattle.lrc_visit_meaning.specs.Demand.{built_in, built_in_each}
+use Rattle.lrc_meaning.specs.Tree.{Tree, int, bool, name, node}
+use Rattle.lrc_meaning.specs.Expression.{Expression, literal, occurrence, binary, choice, bool_in, operated, chosen, value_of}
+use Rattle.lrc_visit_meaning.specs.Demand.{built_in}
 use Rattle.lrc_store.specs.Cells.{CellTree, parts, IsWithin}
 use Rattle.lrc_store.specs.Standing.{Standing, Told}
-use Rattle.lrc_store.specs.Words.{Keeps, Adds, LacksOne, Reads}
+use Rattle.lrc_store.specs.Words.{Adds, LacksOne, Reads}
 use Rattle.lrc_store.specs.declared.cells.Handle.{Handle}
 use Rattle.lrc_store.specs.declared.stores.Full.{Full}
 use Rattle.lrc_store.proofs.Lasting.{adds-same, adds-more, stays-gains, lacks-more}
-use Rattle.lrc_code.specs.Forms.{name_cell, tree_cell}
-use Rattle.lrc_call_meaning.specs.Spelled.{IsSpelled}
+use Rattle.lrc_code.specs.Forms.{name_cell}
 use Rattle.lrc_eval.specs.declared.values.Val.{Val}
 use Rattle.lrc_eval.specs.declared.values.Val.TheVariants as v
 use Rattle.lrc_eval.specs.Values.{Means, IsMeant, Finds}

@@ -1,6 +1,6 @@
 -- What is given to the parts of an expression, and what stays given while a store grows.
-use Rattle.std.proofs.Common.{◌≡◌, ℕ, zero, suc, ◌<◌, ◌≤◌, Bool, true, false, List, [], ◌∷◌, length, refl, sym, ◌∙◌, ap, subst, arith, Option, Some, None, Contains, IsSome, cond}
-use Rattle.std.specs.Prelude.{slice_get, slice_index_or, option_and_then}
+use Rattle.std.proofs.Common.{◌≡◌, ℕ, zero, suc, ◌<◌, Bool, true, false, List, length, refl, ◌∙◌, ap, arith, Option, Some, None, IsSome, cond}
+use Rattle.std.specs.Prelude.{slice_get, option_and_then}
 use Rattle.std.proofs.lemmas.List.Elements.{Contains-append_left, Contains-append_right}
 use Rattle.std.proofs.lemmas.Bool.{false≢true}
 use Rattle.std.proofs.lemmas.Option.{slice_get_within}
@@ -8,12 +8,9 @@ use Rattle.lrc_base.specs.declared.grammar.Kid.{Kid}
 use Rattle.lrc_base.specs.declared.expr.Op.{Op}
 use Rattle.lrc_base.specs.declared.expr.Op.TheVariants as o
 use Rattle.lrc_meaning.specs.Tree.{Tree, Trees, none, more, node, in_order, is_sort}
-use Rattle.lrc_meaning.specs.Expression.{Expression, literal, occurrence, leaf, binary, choice, make, Expressions, no_more, and_more}
-use Rattle.lrc_meaning.specs.Grammar.{leaf_kind}
+use Rattle.lrc_meaning.specs.Expression.{Expression, occurrence, leaf, binary, choice, make, Expressions, and_more}
 use Rattle.lrc_order_meaning.specs.Needs.{reads, reads_of_each}
-use Rattle.lrc_visit_meaning.specs.Visits.{leaf_in}
-use Rattle.lrc_store.specs.Cells.{CellTree}
-use Rattle.lrc_store.specs.Standing.{Standing, Stands, meant}
+use Rattle.lrc_store.specs.Standing.{Standing, meant}
 use Rattle.lrc_store.specs.Words.{Keeps}
 use Rattle.lrc_store.specs.declared.cells.Handle.{Handle}
 use Rattle.lrc_store.proofs.Known.{stands-meant}
@@ -23,7 +20,7 @@ use Rattle.lrc_call_meaning.specs.Spelled.{IsSpelledName, IsSpelled}
 use Rattle.lrc_eval.specs.declared.values.Val.{Val}
 use Rattle.lrc_eval.specs.declared.values.Val.TheVariants as v
 use Rattle.lrc_eval.specs.Values.{Means, IsMeant}
-use Rattle.lrc_eval.specs.Evaluating.{Inputs, leaves, FitsNode, IsSet, IsNode, AreGiven, AreGivenForEach}
+use Rattle.lrc_eval.specs.Evaluating.{Inputs, leaves, IsSet, IsNode, AreGiven, AreGivenForEach}
 use Rattle.lrc_eval.proofs.CellLemmas.{kid-cell}
 
 -- ---- what stays given

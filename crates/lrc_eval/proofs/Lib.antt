@@ -5,3 +5,4 @@ pub mod GivenLemmas
 pub mod EvaluateLemmas
 pub mod MakeLemmas
 pub mod FormLemmas
+pub mod KindLemmas

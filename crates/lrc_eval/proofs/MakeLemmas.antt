@@ -1,5 +1,5 @@
 -- What is answered of a node that is made and of its arguments, from what is answered of each argument.
-use Rattle.std.proofs.Common.{◌≡◌, ℕ, zero, suc, ◌+◌, ◌<◌, ◌≤◌, ◌-◌, Bool, true, false, List, [], ◌∷◌, ◌++◌, map, length, take, drop, get_or, refl, sym, ◌∙◌, ap, subst, arith, Option, Some, None}
+use Rattle.std.proofs.Common.{◌≡◌, ℕ, ◌+◌, ◌<◌, ◌≤◌, ◌-◌, List, [], ◌∷◌, map, length, take, drop, get_or, refl, sym, ◌∙◌, ap, subst, arith, Option, Some, None}
 use Rattle.std.specs.Prelude.{Result, Ok, Err, IsErr, option_map, option_and_then}
 use Rattle.std.specs.Option.{option_map_or}
 use Rattle.std.proofs.lemmas.Bool.{false≢true}
@@ -8,22 +8,21 @@ use Rattle.lrc_base.specs.declared.expr.Expr.{Expr}
 use Rattle.lrc_meaning.specs.Tree.{Tree, Trees, none, more, node}
 use Rattle.lrc_meaning.specs.Expression.{Expression, make, Expressions, no_more, and_more, expression, expression_row, value_of, values_of}
 use Rattle.lrc_visit_meaning.specs.Demand.{built_in, built_in_each}
-use Rattle.lrc_store.specs.Cells.{CellTree, nil, pair, parts, IsWithin}
+use Rattle.lrc_store.specs.Cells.{CellTree, nil, parts, IsWithin}
 use Rattle.lrc_store.specs.Standing.{Standing, Stands, IsKnown, meant, Told}
-use Rattle.lrc_store.specs.Words.{Keeps, Adds, LacksOne, Tells}
+use Rattle.lrc_store.specs.Words.{Adds, LacksOne, Tells}
 use Rattle.lrc_store.specs.declared.cells.Handle.{Handle}
 use Rattle.lrc_store.specs.declared.stores.Full.{Full}
 use Rattle.lrc_store.proofs.Known.{stands-meant, stands-known}
 use Rattle.lrc_store.proofs.Lasting.{adds-same, adds-more, lacks-more}
-use Rattle.lrc_code.specs.Forms.{more_cell, list_cell, node_cell, tree_cell, kid_cells, EachNameBelow}
+use Rattle.lrc_code.specs.Forms.{more_cell, list_cell, node_cell, tree_cell, kid_cells}
 use Rattle.lrc_code.specs.Building.{Builds}
 use Rattle.lrc_code.proofs.Growing.{left-within, right-within}
-use Rattle.lrc_call_meaning.specs.Spelled.{IsSpelledName, IsSpelled}
 use Rattle.lrc_eval.specs.declared.values.Val.{Val}
 use Rattle.lrc_eval.specs.declared.values.Val.TheVariants as v
-use Rattle.lrc_eval.specs.Values.{Means, IsMeant}
-use Rattle.lrc_eval.specs.Evaluating.{Inputs, leaves, cells_of_trees, built_cells, argument_cells, AreSeen, Evaluates, FindsList, EvaluatesEach}
-use Rattle.lrc_eval.proofs.CellLemmas.{within-left, within-right, within-each, cells-left, cells-right, cells-each, cells-one, cells-only, told-none, told-less, told-lasts, told-each, adds-in}
+use Rattle.lrc_eval.specs.Values.{Means}
+use Rattle.lrc_eval.specs.Evaluating.{Inputs, leaves, cells_of_trees, built_cells, argument_cells, Evaluates, EvaluatesEach}
+use Rattle.lrc_eval.proofs.CellLemmas.{within-left, within-right, within-each, cells-left, cells-right, cells-each, cells-one, cells-only, told-none, told-lasts, told-each, adds-in}
 use Rattle.lrc_eval.proofs.GivenLemmas.{meant-lasts}
 use Rattle.lrc_eval.proofs.EvaluateLemmas.{ends-full, ends-none, ends-some}
 

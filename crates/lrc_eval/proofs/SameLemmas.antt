@@ -1,20 +1,18 @@
 -- Trees that are the same are equal, and where their names are spelled so are their cells.
-use Rattle.std.proofs.Common.{◌≡◌, ◌≢◌, ℕ, ℤ, Bool, true, false, ◌&&◌, List, refl, sym, ◌∙◌, ap, IsTrue, Some}
+use Rattle.std.proofs.Common.{◌≡◌, ℕ, ℤ, Bool, true, false, refl, sym, ◌∙◌, ap, IsTrue, Some}
 use Rattle.std.specs.Prelude.{◌↔◌}
 use Rattle.std.proofs.lemmas.Bool.{false≢true, and_parts, and_from}
 use Rattle.std.proofs.lemmas.Bool.Decides.{Decides-eqb, Decides-int_eq}
 use Rattle.std.proofs.lemmas.Slice.Eq.{bytes_eq-Decides}
 use Rattle.lrc_meaning.specs.Tree.{Tree, Trees, int, bool, name, node, none, more, same_tree, same_trees, if_same}
 use Rattle.lrc_store.specs.Standing.{Standing, meant}
-use Rattle.lrc_store.specs.declared.cells.Handle.{Handle}
 use Rattle.lrc_store.proofs.Known.{stands-meant}
 use Rattle.lrc_code.specs.Forms.{tree_cell}
 use Rattle.lrc_code.specs.Decoding.{tree_in}
 use Rattle.lrc_call_meaning.specs.Spelled.{IsSpelled}
 use Rattle.lrc_call_meaning.proofs.DecodingLemmas.{value-back}
-use Rattle.lrc_eval.specs.declared.values.Val.{Val}
 use Rattle.lrc_eval.specs.declared.values.Val.TheVariants as v
-use Rattle.lrc_eval.specs.Values.{Means, IsMeant, is_name_or_node}
+use Rattle.lrc_eval.specs.Values.{Means, is_name_or_node}
 
 bool-itself : (b : Bool) → if_same b b ≡ true
 bool-itself true = refl

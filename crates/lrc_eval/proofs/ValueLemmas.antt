@@ -1,16 +1,15 @@
 -- What values mean: the cells of trees tell them apart, equal values mean equal trees, and what is known is told.
-use Rattle.std.proofs.Common.{◌≡◌, ◌≢◌, ◌⊎◌, inl, inr, ℕ, zero, suc, ◌+◌, ℤ, Bool, true, false, ◌&&◌, List, [], ◌∷◌, length, refl, sym, ◌∙◌, ap, subst, arith, Option, Some, None, Contains, IsTrue}
-use Rattle.std.proofs.lemmas.Bool.{false≢true}
+use Rattle.std.proofs.Common.{◌≡◌, ◌≢◌, ℕ, zero, suc, ◌+◌, ℤ, true, false, List, length, refl, sym, ◌∙◌, ap, subst, arith, Option, Some, None, Contains}
 use Rattle.std.specs.Int.{div_ceil, int_wrap, w64}
 use Rattle.std.specs.Prelude.{◌+ℤ◌, ◌-ℤ◌}
 use Rattle.lrc_base.specs.declared.expr.Op.{Op}
 use Rattle.lrc_base.specs.declared.expr.Op.TheVariants as o
-use Rattle.lrc_meaning.specs.Tree.{Tree, Trees, int, bool, name, node, none, more, same_tree, same_trees, if_same}
+use Rattle.lrc_meaning.specs.Tree.{Tree, int, bool, name, node}
 use Rattle.lrc_meaning.specs.Expression.{operated, int_in}
-use Rattle.lrc_store.specs.Cells.{CellTree, nil, number, pair, parts, HoldsParts, IsClosed, IsWithin}
+use Rattle.lrc_store.specs.Cells.{CellTree, nil, number, pair, HoldsParts, IsClosed}
 use Rattle.lrc_store.specs.Standing.{Standing, Stands, IsKnown, IsSound, meant, Told}
-use Rattle.lrc_store.specs.Words.{Keeps, Tells}
-use Rattle.lrc_store.proofs.Known.{known-stands, stands-meant}
+use Rattle.lrc_store.specs.Words.{Tells}
+use Rattle.lrc_store.proofs.Known.{known-stands}
 use Rattle.lrc_code.specs.Forms.{words_cell, name_cell, tree_cell}
 use Rattle.lrc_eval.specs.declared.values.Val.{Val}
 use Rattle.lrc_eval.specs.declared.values.Val.TheVariants as v

@@ -5,8 +5,12 @@
 #![tactic(auto)]
 
 mod expression;
+mod kinds;
+mod laws;
 mod operators;
 mod values;
 
 pub use expression::evaluate;
+pub use kinds::eval;
+pub use laws::{trees_are_the_same_by_cells, values_are_of_their_kinds};
 pub use values::{Val, value_handle, value_of_handle};

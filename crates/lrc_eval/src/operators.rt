@@ -1,8 +1,7 @@
-ghost use Rattle.std.specs.Prelude.{◌≡◌, Some, ℤ};
+ghost use Rattle.std.specs.Prelude.{◌≡◌, Some};
 ghost use Rattle.lrc_meaning.specs.Tree.{Tree, int, same_tree};
 ghost use Rattle.lrc_meaning.specs.Expression.{operated, int_in};
 ghost use Rattle.lrc_store.specs.Standing.{Standing};
-ghost use Rattle.lrc_call_meaning.specs.Spelled.{IsSpelled};
 ghost use Rattle.lrc_eval.specs.Values.{Means, IsMeant, Finds};
 
 use crate::values::Val;

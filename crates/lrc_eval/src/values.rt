@@ -1,7 +1,6 @@
 ghost use Rattle.std.specs.Prelude.{◌≡◌};
 ghost use Rattle.lrc_meaning.specs.Tree.{Tree};
-ghost use Rattle.lrc_store.specs.Cells.{nil};
-ghost use Rattle.lrc_store.specs.Cells as c;
+ghost use Rattle.lrc_store.specs.Cells.{nil, number};
 ghost use Rattle.lrc_store.specs.Standing.{IsKnown, Stands, meant};
 ghost use Rattle.lrc_store.specs.Words.{Reads, Tells};
 ghost use Rattle.lrc_code.specs.Forms.{tree_cell};
@@ -45,11 +44,11 @@ pub(crate) fn empty_list<St: Store>(store: &St) -> Handle
 }
 
 /// A handle of a number's cell.
-fn number_handle<St: Store>(store: &mut St, number: i64) -> Result<Handle, Full>
-    ensures builds { Builds (St.state store.old) (St.state store.new) (c.number number) result }
+fn number_handle<St: Store>(store: &mut St, value: i64) -> Result<Handle, Full>
+    ensures builds { Builds (St.state store.old) (St.state store.new) (number value) result }
     ensures same_meaning { St.meaning store.new ≡ St.meaning store.old }
 {
-    store.int(number)
+    store.int(value)
 }
 
 /// A handle of the cell of the value, which is set.

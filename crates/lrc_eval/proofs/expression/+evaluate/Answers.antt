@@ -1,14 +1,12 @@
-use Rattle.std.proofs.Common.{◌≡◌, ◌+◌, ◌-◌, map, take, drop, length, ap, sym, ◌∙◌, subst, refl, arith, rules, pos, Some, None, w64, SFits, to_z, of_z}
+use Rattle.std.proofs.Common.{◌≡◌, ◌+◌, ◌-◌, map, take, drop, length, ap, ◌∙◌, refl, arith, rules, pos, Some, None, w64, SFits, to_z, of_z}
 use Rattle.std.specs.Prelude.{Ok}
 use Rattle.std.proofs.lemmas.Int.{to_z-of_z}
-use Rattle.lrc_meaning.specs.Tree.{Tree, int, bool, name, node}
+use Rattle.lrc_meaning.specs.Tree.{int, bool, name, node}
 use Rattle.lrc_meaning.specs.Expression.{expression, literal, occurrence, leaf, binary, choice, make, no_more, and_more, expression_row}
 use Rattle.lrc_meaning.proofs.ExpressionLemmas.{expression-Int, expression-Bool, expression-Name, expression-Occ, expression-Leaf}
-use Rattle.lrc_store.specs.Standing.{meant}
 use Rattle.lrc_store.proofs.Known.{stands-known}
 use Rattle.lrc_code.specs.Forms.{tree_cell}
 use Rattle.lrc_eval.specs.declared.values.Val.TheVariants as v
-use Rattle.lrc_eval.specs.Evaluating.{Inputs, AreGiven, AreGivenForEach, Evaluates, EvaluatesEach}
 use Rattle.lrc_eval.proofs.GivenLemmas.{given-lasts, each-given-lasts, given-left, given-right, given-condition, given-then, given-other, given-arguments, given-first, given-rest, given-value, leaf-there}
 use Rattle.lrc_eval.proofs.EvaluateLemmas.{ends-unbuilt, number-literal, truth-literal, name-full, name-literal, set-within, occurrence-value, left-full, left-none, right-full, right-none, both-meant, both-there, condition-full, condition-none, condition-other, no-truth-value, then-chosen, other-chosen}
 use Rattle.lrc_eval.proofs.MakeLemmas.{no-arguments, first-full, first-none, rest-full, rest-none, value-meant, item-full, item-known, rest-known, list-full, list-there, arguments-full, arguments-none, node-full, node-there, list-known, no-args, first-args}

@@ -1,4 +1,4 @@
-use Rattle.std.proofs.Common.{suc, ◌+◌, map}
+use Rattle.std.proofs.Common.{◌+◌, map}
 use Rattle.lrc_meaning.specs.Expression.{expression, expression_row}
 use Rattle.lrc_eval.proofs.FormLemmas.{weight, weight_of_each}
 use Rattle.lrc_eval.proofs.expression.+evaluate.Given as goal

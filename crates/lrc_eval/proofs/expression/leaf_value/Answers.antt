@@ -4,8 +4,6 @@ use Rattle.lrc_store.proofs.Known.{known-stands}
 use Rattle.lrc_store.proofs.Lasting.{reads-then}
 use Rattle.lrc_code.specs.Forms.{tree_cell}
 use Rattle.lrc_eval.proofs.CellLemmas.{one-kid}
-use Rattle.lrc_eval.proofs.GivenLemmas.{leaf-there}
-use Rattle.lrc_eval.proofs.MakeLemmas.{no-args}
 use Rattle.lrc_eval.proofs.expression.leaf_value.Goals as goal
 
 pub value_of_handle-requires : goal.value_of_handle-requires
