@@ -235,7 +235,7 @@ module _ (prods : List Production) (occurrences : List Occurrence) (x : Inputs) 
 
 module _ (prods : List Production) (occurrences : List Occurrence) (kids : List Kid) (few : length prods ≤ 65280) where
   mutual
-    fits-kind : (e : Expression) (kind : Kind) → expression_kind prods occurrences kids e ≡ Some kind → FitsNode kids e
+    pub fits-kind : (e : Expression) (kind : Kind) → expression_kind prods occurrences kids e ≡ Some kind → FitsNode kids e
     fits-kind (literal t) kind h = tt
     fits-kind (occurrence i) kind h = tt
     fits-kind (leaf i) kind h = subst IsSome (sym h) refl

@@ -15,7 +15,7 @@ use lrc_call_meaning::name_is_spelled;
 use lrc_code::{kid_of, put_list, put_name, put_node};
 use lrc_store::{Full, Handle, Store};
 
-/// The value of the leaf that is the child of this number of a node.
+/// The value of the leaf that is the child of this number, from 0, of a node.
 fn leaf_value<St: Store>(store: &mut St, node: Handle, i: u32) -> Val
     requires known { IsKnown (St.state store.old) node.0 }
     requires leaf { (t : Tree) × HasKid (meant (St.state store.old) node.0) i (tree_cell t) }
@@ -27,7 +27,7 @@ fn leaf_value<St: Store>(store: &mut St, node: Handle, i: u32) -> Val
     value_of_handle(store, leaf)
 }
 
-/// The value that a name is.
+/// The value that a name is: a handle of its cell.
 fn name_value<St: Store>(store: &mut St, name: &NameText) -> Result<Val, Full>
     ensures names { NamesValue (St.state store.old) (St.state store.new) name.now result }
     ensures same_meaning { St.meaning store.new ≡ St.meaning store.old }
@@ -36,10 +36,13 @@ fn name_value<St: Store>(store: &mut St, name: &NameText) -> Result<Val, Full>
     Ok(Val::Ref(put_name(store, name)?))
 }
 
-/// The value of an expression over the values of the occurrences, and the children of the node that
-/// the handle stands for; none where an operator or a condition meets a value of another kind. Of a
-/// choice only the branch that is taken is evaluated. The arguments of a node are all evaluated before
-/// a cell is made of it.
+/// The value of an expression over the values of the occurrences, by number, and the children of the
+/// node that the handle stands for; none where an operator or a condition meets a value of another
+/// kind. Each occurrence that the expression reads, in any branch, is set, and each leaf that it reads
+/// is a child whose kind is no sort.
+///
+/// Of a choice only the branch that is taken is evaluated. All arguments of a node are evaluated before
+/// a cell of their list is made.
 ///
 /// # Errors
 ///

@@ -11,8 +11,9 @@ use crate::values::Val;
 use lrc_base::Expr;
 use lrc_store::{Full, Handle, Store};
 
-/// The value of an expression whose kinds are right: over the values of the occurrences, and the
-/// children of the node that the handle stands for.
+/// The value of an expression whose kinds are right, which is of its kind: over the values of the
+/// occurrences, by number, and the children of the node that the handle stands for. Each occurrence
+/// that the expression reads, in any branch, is set.
 ///
 /// # Errors
 ///
