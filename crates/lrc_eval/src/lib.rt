@@ -9,4 +9,4 @@ mod operators;
 mod values;
 
 pub use expression::evaluate;
-pub use values::{Val, value_handle, value_of_handle};
+pub use values::{Val, empty_list, value_handle, value_of_handle};

@@ -6,5 +6,8 @@
 #![tactic(auto)]
 
 mod body;
+mod ending;
+mod items;
 
 pub use body::Body;
+pub use ending::finish;

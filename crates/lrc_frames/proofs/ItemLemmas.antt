@@ -1,0 +1,146 @@
+-- Lists of cells that are made from the last item to the first, and the cells that values hold.
+use lib.IntN.{pos}
+use Rattle.std.proofs.Common.{◌≡◌, ℕ, zero, suc, ◌+◌, ◌-◌, ◌<◌, ◌≤◌, Bool, true, false, List, [], ◌∷◌, length, drop, get_or, refl, sym, ◌∙◌, ap, subst, arith, drop-cons, Some}
+use Rattle.std.specs.Prelude.{Result, Ok, Err, IsErr, slice_get}
+use Rattle.std.proofs.lemmas.Option.{slice_get-get_or, get_or_from_slice_get, slice_get_within}
+use Rattle.lrc_meaning.specs.Tree.{Tree, int, bool}
+use Rattle.lrc_store.specs.Cells.{CellTree, nil, parts, IsWithin}
+use Rattle.lrc_store.specs.Standing.{Standing, Stands, IsSound, meant}
+use Rattle.lrc_store.specs.Words.{Keeps, Adds, Tells}
+use Rattle.lrc_store.specs.declared.cells.Handle.{Handle}
+use Rattle.lrc_store.specs.declared.stores.Full.{Full}
+use Rattle.lrc_store.proofs.Known.{stands-known, stands-meant}
+use Rattle.lrc_store.proofs.Lasting.{adds-same}
+use Rattle.lrc_code.specs.Forms.{more_cell, list_cell, tree_cell}
+use Rattle.lrc_code.specs.Building.{Builds}
+use Rattle.lrc_code.proofs.Growing.{left-within, right-within, linked, adds-behind, more-stopped, tells-as}
+use Rattle.lrc_eval.specs.declared.values.Val.{Val}
+use Rattle.lrc_eval.specs.declared.values.Val.TheVariants as v
+use Rattle.lrc_eval.specs.Values.{Means}
+use Rattle.lrc_eval.proofs.ValueLemmas.{known-told}
+use Rattle.lrc_frames.specs.Writing.{HoldsCell, HoldsAt, AreHeld, AreHeldEach}
+
+-- ---- the cells that values hold
+
+-- what a handle holds is in the store
+pub handle-builds : (s : Standing) (value : Val) (handle : Handle) (cell : CellTree) → value ≡ v.Ref handle → IsSound s → HoldsCell s value cell → Builds s s cell (Ok handle)
+handle-builds s value handle cell e sound holds =
+    let stands : Stands s handle.0 cell = subst (λ (x : Val). HoldsCell s x cell) e holds in
+    record {
+      adds = adds-same s (parts cell);
+      ok = tells-as s handle.0 (meant s handle.0) cell (stands-meant s handle.0 cell stands) (known-told s handle.0 sound (stands-known s handle.0 cell stands));
+      full = tt;
+    }
+
+-- a value that is no handle holds the cell of the leaf that it means
+pub leaf-held : (s : Standing) (value : Val) (cell : CellTree) → ((handle : Handle) → value ≡ v.Ref handle → ⊥) → HoldsCell s value cell → (t : Tree) × Means s value t × (tree_cell t ≡ cell)
+leaf-held s (v.Int n) cell no-handle holds = (int n, refl, sym holds)
+leaf-held s (v.Bool b) cell no-handle holds = (bool b, refl, sym holds)
+leaf-held s (v.Ref handle) cell no-handle holds = absurd (no-handle handle refl)
+leaf-held s v.Unset cell no-handle holds = absurd holds
+
+holds-lasts : (s t : Standing) (value : Val) (cell : CellTree) → Keeps s t → HoldsCell s value cell → HoldsCell t value cell
+holds-lasts s t (v.Int n) cell k h = h
+holds-lasts s t (v.Bool b) cell k h = h
+holds-lasts s t (v.Ref handle) cell k h = k handle.0 cell h
+holds-lasts s t v.Unset cell k h = h
+
+at-lasts : (s t : Standing) (frame : List Val) (n : ℕ) (cell : CellTree) → Keeps s t → HoldsAt s frame n cell → HoldsAt t frame n cell
+at-lasts s t frame n cell k h = record { value = h.value; there = h.there; holds = holds-lasts s t h.value cell k h.holds }
+
+held-lasts : (s t : Standing) (frame : List Val) (numbers : List ℕ) (cells : List CellTree) → Keeps s t → AreHeld s frame numbers cells → AreHeld t frame numbers cells
+held-lasts s t frame numbers cells k h = record { count = h.count; each = λ i n cell e f. at-lasts s t frame n cell k (h.each i n cell e f) }
+
+pub each-lasts : (s t : Standing) (frame : List Val) (lists : List (List ℕ)) (rows : List (List CellTree)) → Keeps s t → AreHeldEach s frame lists rows → AreHeldEach t frame lists rows
+each-lasts s t frame lists rows k h = record { count = h.count; each = λ i numbers cells e f. held-lasts s t frame numbers cells k (h.each i numbers cells e f) }
+
+-- what stands at the number of this place, later
+pub record HeldItem (s : Standing) (frame : List Val) (n : ℕ) (cells : List CellTree) (i : ℕ) : Type 0 where
+  pub cell : CellTree
+  pub at : slice_get cells i ≡ Some cell
+  pub within : n < length frame
+  pub holds : HoldsCell s (get_or frame n (v.Int (pos 0))) cell
+
+pub held-item : (s t : Standing) (frame : List Val) (numbers : List ℕ) (cells : List CellTree) (i : ℕ) → Keeps s t → AreHeld s frame numbers cells → i < length numbers → HeldItem t frame (get_or numbers i 0) cells i
+held-item s t frame numbers cells i k h less =
+    let inside : i < length cells = omega (arith, h.count) in
+    let at = slice_get-get_or cells i nil inside in
+    let there = h.each i (get_or numbers i 0) (get_or cells i nil) (slice_get-get_or numbers i 0 less) at in
+    record {
+      cell = get_or cells i nil;
+      at = at;
+      within = slice_get_within frame (get_or numbers i 0) there.value there.there;
+      holds = subst (λ (x : Val). HoldsCell t x (get_or cells i nil)) (sym (get_or_from_slice_get frame (get_or numbers i 0) there.value (v.Int (pos 0)) there.there)) (holds-lasts s t there.value (get_or cells i nil) k there.holds);
+    }
+
+-- ---- a list, item by item
+
+within-list : (k : ℕ) (cells : List CellTree) → IsWithin (parts (list_cell (drop k cells))) (parts (list_cell cells))
+within-list zero cells part h = h
+within-list (suc k) [] part h = h
+within-list (suc k) (c ∷ cells) part h = right-within 4 c (list_cell cells) part (within-list k cells part h)
+
+-- the item that stands before the last ones
+next-item : (cells : List CellTree) (n done : ℕ) (c : CellTree) → n ≡ length cells → done < n → slice_get cells (n - 1 - done) ≡ Some c →
+    list_cell (drop (n - (done + 1)) cells) ≡ more_cell c (list_cell (drop (n - done) cells))
+next-item cells n done c all h e =
+    let place : n - (done + 1) ≡ n - 1 - done = omega arith in
+    let behind : suc (n - 1 - done) ≡ n - done = omega arith in
+    let within : n - 1 - done < length cells = omega arith in
+    ap (λ k. list_cell (drop k cells)) place
+    ∙ ap list_cell (drop-cons cells (n - 1 - done) c within)
+    ∙ ap (λ x. more_cell x (list_cell (drop (suc (n - 1 - done)) cells))) (get_or_from_slice_get cells (n - 1 - done) c c e)
+    ∙ ap (λ k. more_cell c (list_cell (drop k cells))) behind
+
+dropped : (n : ℕ) (cells : List CellTree) → length cells ≤ n → drop n cells ≡ []
+dropped zero [] h = refl
+dropped zero (c ∷ cells) h = absurd (omega arith)
+dropped (suc n) [] h = refl
+dropped (suc n) (c ∷ cells) h = dropped n cells (omega arith)
+
+-- So many of a list's n items were put, the last ones: the handle stands for the list of them.
+pub record IsMade (o s : Standing) (list : ℕ) (cells : List CellTree) (n done : ℕ) : Type 0 where
+  pub all : n ≡ length cells
+  pub adds : Adds o s (parts (list_cell cells))
+  pub tells : Tells s list (list_cell (drop (n - done) cells))
+
+pub made-none : (o : Standing) (list : ℕ) (cells : List CellTree) (n : ℕ) → n ≡ length cells → Tells o list nil → IsMade o o list cells n 0
+made-none o list cells n all tells = record {
+  all = all;
+  adds = adds-same o (parts (list_cell cells));
+  tells = tells-as o list nil (list_cell (drop (n - 0) cells)) (ap list_cell (sym (dropped (n - 0) cells (omega arith)))) tells;
+}
+
+pub made-all : (o s : Standing) (list : Handle) (cells : List CellTree) (n done : ℕ) → n ≤ done → IsMade o s list.0 cells n done → Builds o s (list_cell cells) (Ok list)
+made-all o s list cells n done h m =
+    let start : n - done ≡ 0 = omega arith in
+    record { adds = m.adds; ok = tells-as s list.0 (list_cell (drop (n - done) cells)) (list_cell cells) (ap (λ k. list_cell (drop k cells)) start) m.tells; full = tt }
+
+-- the next item, of this cell
+module _ (o s t : Standing) (list : Handle) (cells : List CellTree) (n done : ℕ) (c : CellTree) (made : IsMade o s list.0 cells n done) (h : done < n) (at : slice_get cells (n - 1 - done) ≡ Some c) where
+  abbrev longer : CellTree
+  longer = more_cell c (list_cell (drop (n - done) cells))
+
+  longer-within : IsWithin (parts longer) (parts (list_cell cells))
+  longer-within = subst (λ (x : CellTree). IsWithin (parts x) (parts (list_cell cells))) (next-item cells n done c made.all h at) (within-list (n - (done + 1)) cells)
+
+  -- it can't be put
+  pub item-stopped : (e : Full) (answer : Result Handle Full) → IsErr answer → Builds s t c (Err e) → Builds o t (list_cell cells) answer
+  item-stopped e answer is b =
+      more-stopped o s t c (list_cell cells) e answer (λ part k. longer-within part (left-within 4 c (list_cell (drop (n - done) cells)) part k)) made.adds is b
+
+  module _ (u : Standing) (item : Handle) (b : Builds s t c (Ok item)) where
+    -- the list with it can't be put
+    pub list-stopped : (e : Full) (answer : Result Handle Full) → IsErr answer → Builds t u (more_cell (meant t item.0) (meant t list.0)) (Err e) → Builds o u (list_cell cells) answer
+    list-stopped e answer is b2 =
+        more-stopped o s u longer (list_cell cells) e answer longer-within made.adds is (linked s t u 4 item list.0 c (list_cell (drop (n - done) cells)) (Err e) made.tells.stands b b2)
+
+    -- the list is put with it
+    pub list-more : (more : Handle) → Builds t u (more_cell (meant t item.0) (meant t list.0)) (Ok more) → IsMade o u more.0 cells n (done + 1)
+    list-more more b2 =
+        let whole = linked s t u 4 item list.0 c (list_cell (drop (n - done) cells)) (Ok more) made.tells.stands b b2 in
+        record {
+          all = made.all;
+          adds = adds-behind o s u longer (list_cell cells) (Ok more) longer-within made.adds whole;
+          tells = tells-as u more.0 longer (list_cell (drop (n - (done + 1)) cells)) (sym (next-item cells n done c made.all h at)) whole.ok;
+        }
