@@ -1,7 +1,6 @@
 -- What the steps of a visit that runs answer.
-use Rattle.std.specs.Prelude.{◌≡◌, ℕ, ◌+◌, ◌-◌, ◌≤◌, ◌^◌, min, Bool, true, false, cond, List, [], ◌∷◌, length, map, Option, Some, None, IsTrue, Contains, Result, IfOk, OnErr}
+use Rattle.std.specs.Prelude.{◌≡◌, ℕ, ◌-◌, Bool, true, false, cond, List, [], ◌∷◌, length, Option, Some, None, IsTrue, Contains, Result, IfOk, OnErr}
 use Rattle.std.specs.Option.{option_map_or}
-use Rattle.std.specs.List.{range_with_len}
 use Rattle.lrc_base.specs.declared.grammar.Kind.TheVariants as k
 use Rattle.lrc_base.specs.declared.grammar.Production.{Production}
 use Rattle.lrc_meaning.specs.Tree.{Tree, Trees, node}
@@ -14,7 +13,7 @@ use Rattle.lrc_plan_meaning.specs.Items.{visits_of, attrs_of_visit, values_of_vi
 use Rattle.lrc_plan_meaning.specs.Bindings.{binding}
 use Rattle.lrc_visit_meaning.specs.Values as plain
 use Rattle.lrc_visit_meaning.specs.Values.{Datum, value, Data, Call}
-use Rattle.lrc_visit_meaning.specs.Visits.{is_of_kind, leaf_in, equation_of, values_in, evaluated, tree_at, is_visited, call_of, given_by, one_visit}
+use Rattle.lrc_visit_meaning.specs.Visits.{is_of_kind, leaf_in, equation_of, values_in, evaluated, tree_at, is_visited, call_of, one_visit}
 use Rattle.lrc_visit_meaning.specs.Demand.{equation_met}
 use Rattle.lrc_store.specs.Cells.{CellTree, parts as parts_of, IsWithin}
 use Rattle.lrc_store.specs.Standing.{Standing, Told}
