@@ -1,8 +1,9 @@
 -- Lists of cells that are made from the last item to the first, and the cells that values hold.
 use lib.IntN.{pos}
-use Rattle.std.proofs.Common.{◌≡◌, ℕ, zero, suc, ◌+◌, ◌-◌, ◌<◌, ◌≤◌, Bool, true, false, List, [], ◌∷◌, length, drop, get_or, refl, sym, ◌∙◌, ap, subst, arith, drop-cons, Some}
+use Rattle.std.proofs.Common.{◌≡◌, ℕ, zero, suc, ◌+◌, ◌-◌, ◌<◌, ◌≤◌, Bool, true, false, List, [], ◌∷◌, length, map, drop, get_or, refl, sym, ◌∙◌, ap, subst, arith, drop-cons, Some}
 use Rattle.std.specs.Prelude.{Result, Ok, Err, IsErr, slice_get}
-use Rattle.std.proofs.lemmas.Option.{slice_get-get_or, get_or_from_slice_get, slice_get_within}
+use Rattle.std.specs.Option.{option_map}
+use Rattle.std.proofs.lemmas.Option.{slice_get-map, slice_get-get_or, slice_get_read, get_or_from_slice_get, slice_get_within}
 use Rattle.lrc_meaning.specs.Tree.{Tree, int, bool}
 use Rattle.lrc_store.specs.Cells.{CellTree, nil, parts, IsWithin}
 use Rattle.lrc_store.specs.Standing.{Standing, Stands, IsSound, meant}
@@ -48,7 +49,7 @@ holds-lasts s t v.Unset cell k h = h
 at-lasts : (s t : Standing) (frame : List Val) (n : ℕ) (cell : CellTree) → Keeps s t → HoldsAt s frame n cell → HoldsAt t frame n cell
 at-lasts s t frame n cell k h = record { value = h.value; there = h.there; holds = holds-lasts s t h.value cell k h.holds }
 
-held-lasts : (s t : Standing) (frame : List Val) (numbers : List ℕ) (cells : List CellTree) → Keeps s t → AreHeld s frame numbers cells → AreHeld t frame numbers cells
+pub held-lasts : (s t : Standing) (frame : List Val) (numbers : List ℕ) (cells : List CellTree) → Keeps s t → AreHeld s frame numbers cells → AreHeld t frame numbers cells
 held-lasts s t frame numbers cells k h = record { count = h.count; each = λ i n cell e f. at-lasts s t frame n cell k (h.each i n cell e f) }
 
 pub each-lasts : (s t : Standing) (frame : List Val) (lists : List (List ℕ)) (rows : List (List CellTree)) → Keeps s t → AreHeldEach s frame lists rows → AreHeldEach t frame lists rows
@@ -71,6 +72,24 @@ held-item s t frame numbers cells i k h less =
       at = at;
       within = slice_get_within frame (get_or numbers i 0) there.value there.there;
       holds = subst (λ (x : Val). HoldsCell t x (get_or cells i nil)) (sym (get_or_from_slice_get frame (get_or numbers i 0) there.value (v.Int (pos 0)) there.there)) (holds-lasts s t there.value (get_or cells i nil) k there.holds);
+    }
+
+-- the list of what stands at this list of numbers, later
+pub record HeldList (s : Standing) (frame : List Val) (numbers : List ℕ) (rows : List (List CellTree)) (i : ℕ) : Type 0 where
+  pub cells : List CellTree
+  pub at : slice_get (map list_cell rows) i ≡ Some (list_cell cells)
+  pub held : AreHeld s frame numbers cells
+
+pub held-list : (s t : Standing) (frame : List Val) (lists : List (List ℕ)) (rows : List (List CellTree)) (i : ℕ) (list read : List ℕ) → Keeps s t → AreHeldEach s frame lists rows →
+    i < length lists → list ≡ get_or lists i list → read ≡ list → HeldList t frame read rows i
+held-list s t frame lists rows i list read k h less is same =
+    let inside : i < length rows = omega (arith, h.count) in
+    let at = slice_get-get_or rows i [] inside in
+    let there : slice_get lists i ≡ Some list = slice_get_read lists (length lists) i list refl less is in
+    record {
+      cells = get_or rows i [];
+      at = slice_get-map list_cell rows i ∙ ap (option_map list_cell) at;
+      held = subst (λ (ns : List ℕ). AreHeld t frame ns (get_or rows i [])) (sym same) (held-lasts s t frame list (get_or rows i []) k (h.each i list (get_or rows i []) there at));
     }
 
 -- ---- a list, item by item

@@ -27,6 +27,11 @@ use Rattle.lrc_eval.specs.declared.values.Val.{Val}
 use Rattle.lrc_frames.specs.declared.body.Body.{Body}
 use Rattle.lrc_frames.specs.Frames.{Run, RunsAt, at_start, after}
 
+-- the item holds what is of its sort: an occurrence a value, and a symbol's binding a binding
+abbrev pub IsProper : Bound → Datum → Type 0
+IsProper (b.Value o) d = (t : Tree) × (d ≡ value t)
+IsProper (b.Kid n i j) d = (ds : Data) × (d ≡ plain.binding ds)
+
 module _ (g : Grammar) (parts : List Partition) where
   -- the call visits a node, whose body is at its start
   pub record Begins (s : Standing) (frame : List Val) (c : Call) (body : Body) : Type 0 where
@@ -85,11 +90,6 @@ module _ (g : Grammar) (parts : List Partition) where
   pub record IsOf (r : Run) (n v : ℕ) (outcome : plain.Result) : Type 0 where
     pub values : length outcome.synthesised ≡ length (attrs_of_visit g.sorts parts false (symbol_at g.sorts r.production n).sort v)
     pub bindings : length outcome.bindings ≡ visits_of parts (symbol_at g.sorts r.production n).sort - v
-
-  -- the item holds what is of its sort: an occurrence a value, and a symbol's binding a binding
-  abbrev pub IsProper : Bound → Datum → Type 0
-  IsProper (b.Value o) d = (t : Tree) × (d ≡ value t)
-  IsProper (b.Kid n i j) d = (ds : Data) × (d ≡ plain.binding ds)
 
   -- at the end of visit v all that it gives is available, and what it hands on is proper
   pub record IsDone (r : Run) (v : ℕ) : Type 0 where

@@ -1,0 +1,140 @@
+-- A result is made of its lists: its cell is built part by part, and what it gives stands at the numbers of its function.
+use Rattle.std.proofs.Common.{◌≡◌, ℕ, suc, ◌+◌, ◌-◌, true, false, List, map, Contains, Some, refl, sym, ap, ◌∙◌, subst}
+use Rattle.std.specs.Prelude.{Result, Ok, Err, IsErr, IfOk}
+use Rattle.std.specs.List.{range_with_len}
+use lib.IntN.{pos}
+use Rattle.lrc_meaning.specs.Grammar.{Grammar}
+use Rattle.lrc_order_meaning.specs.declared.Partition.{Partition}
+use Rattle.lrc_plan_meaning.specs.declared.Bound.{Bound}
+use Rattle.lrc_plan_meaning.specs.declared.Bound.TheVariants as b
+use Rattle.lrc_plan_meaning.specs.Items.{visits_of, attrs_of_visit}
+use Rattle.lrc_plan_meaning.specs.Bindings.{binding as items_between}
+use Rattle.lrc_visit_meaning.specs.Values as plain
+use Rattle.lrc_visit_meaning.specs.Visits.{Held, Walked, result_of}
+use Rattle.lrc_store.specs.Cells.{CellTree, number, pair, parts as parts_of, IsWithin}
+use Rattle.lrc_store.specs.Standing.{Standing, meant}
+use Rattle.lrc_store.specs.declared.cells.Handle.{Handle}
+use Rattle.lrc_store.specs.declared.stores.Full.{Full}
+use Rattle.lrc_store.proofs.Known.{stands-meant}
+use Rattle.lrc_code.specs.Forms.{list_cell, tree_cell, result_cell}
+use Rattle.lrc_code.specs.Building.{Builds}
+use Rattle.lrc_code.proofs.Growing.{left-within, right-within, builds-then, builds-stopped, builds-as}
+use Rattle.lrc_call_meaning.specs.Forms.{values_cell, bindings_cell, result_form}
+use Rattle.lrc_call_meaning.specs.Spelled.{IsSpelledResult}
+use Rattle.lrc_eval.specs.declared.values.Val.{Val}
+use Rattle.lrc_functions.specs.Numbers.{number as number_of}
+use Rattle.lrc_functions.specs.declared.function.Function.{Function}
+use Rattle.lrc_functions.specs.Functions.{function_of}
+use Rattle.lrc_frames.specs.Frames.{Run, ShowsAt}
+use Rattle.lrc_frames.specs.Steps.{IsProper}
+use Rattle.lrc_frames.specs.Writing.{AreHeld, AreHeldEach, CanEnd, Ends}
+use Rattle.lrc_frames.proofs.ShownLemmas.{IsShown, row_cells, values-held, values-spelled, rows-held, rows-cells, rows-spelled}
+
+-- what holds in any case holds where a call succeeds
+if-ok : {X : Type 0} (answer : Result Handle Full) → X → IfOk answer (λ _. X)
+if-ok (Ok handle) x = x
+if-ok (Err e) x = tt
+
+-- ---- the cell
+
+module _ (height : ℕ) (synthesised bindings : CellTree) where
+  abbrev whole : CellTree
+  whole = result_cell height synthesised bindings
+
+  synthesised-within : IsWithin (parts_of synthesised) (parts_of whole)
+  synthesised-within part h = right-within 6 (number (pos height)) (pair 5 synthesised bindings) part (left-within 5 synthesised bindings part h)
+
+  bindings-within : IsWithin (parts_of bindings) (parts_of whole)
+  bindings-within part h = right-within 6 (number (pos height)) (pair 5 synthesised bindings) part (right-within 5 synthesised bindings part h)
+
+  first-stopped : (s t : Standing) (e : Full) (answer : Result Handle Full) → IsErr answer → Builds s t synthesised (Err e) → Builds s t whole answer
+  first-stopped s t e answer is one = builds-stopped s t synthesised whole e answer synthesised-within is one
+
+  second-stopped : (s t u : Standing) (first : Handle) (e : Full) (answer : Result Handle Full) → IsErr answer → Builds s t synthesised (Ok first) → Builds t u bindings (Err e) → Builds s u whole answer
+  second-stopped s t u first e answer is one two =
+      builds-then s t u synthesised whole answer synthesised-within one.adds (builds-stopped t u bindings whole e answer bindings-within is two)
+
+  both-built : (s t u w : Standing) (first second : Handle) (answer : Result Handle Full) → Builds s t synthesised (Ok first) → Builds t u bindings (Ok second)
+      → Builds u w (result_cell height (meant u first.0) (meant u second.0)) answer → Builds s w whole answer
+  both-built s t u w first second answer one two three =
+      let left : meant u first.0 ≡ synthesised = stands-meant u first.0 synthesised (two.adds.gains.lasts.known first.0 synthesised one.ok.stands) in
+      let right : meant u second.0 ≡ bindings = stands-meant u second.0 bindings two.ok.stands in
+      let same : result_cell height (meant u first.0) (meant u second.0) ≡ whole =
+      ap (λ c. result_cell height c (meant u second.0)) left ∙ ap (result_cell height synthesised) right in
+      builds-then s t w synthesised whole answer synthesised-within one.adds
+      (builds-then t u w bindings whole answer bindings-within two.adds (builds-as u w (result_cell height (meant u first.0) (meant u second.0)) whole answer same three))
+
+-- ---- a visit that can end
+
+module _ (g : Grammar) (parts : List Partition) (s : Standing) (frame : List Val) (function : Function) (height : ℕ) (r : Run) (v : ℕ) (w : Walked) (can : CanEnd g parts s frame function height r v w) where
+  abbrev outcome : plain.Result
+  outcome = result_of g parts r.production v w
+
+  abbrev Shown : Bound → Type 0
+  Shown = IsShown g parts r.production s frame w.held
+
+  shown : (x : Bound) → Contains r.available x → Shown x
+  shown x c = subst (λ (m : Held). ShowsAt s frame (number_of g.sorts parts r.production x) x (m x)) (sym can.same_held) (can.runs.holds x c)
+
+  abbrev attrs : List ℕ
+  attrs = attrs_of_visit g.sorts parts false r.production.left v
+
+  value-shown : (x : Bound) → Contains (map (λ y. b.Value (0 + y)) attrs) x → Shown x
+  value-shown x c = shown x (can.done.gives x c)
+
+  abbrev between : ℕ → List Bound
+  between = items_between g.sorts parts r.production v
+
+  pub fine : (u : ℕ) (x : Bound) → Contains (between u) x → Shown x × IsProper x (w.held x)
+  fine u x c =
+      let there = can.done.hands_on u x c in
+      (shown x there.0, subst (λ (m : Held). IsProper x (m x)) (sym can.same_held) there.1)
+
+  abbrev later : List ℕ
+  later = range_with_len (v + 1) (visits_of parts r.production.left - v)
+
+  -- what it gives stands at the numbers of its function
+  pub synthesised-held : (read : List ℕ) → read ≡ function.synthesised → AreHeld s frame read (map tree_cell outcome.synthesised)
+  synthesised-held read e =
+      let is : function.synthesised ≡ map (λ x. 0 + x) attrs = ap (λ (f : Function). f.synthesised) can.is_function in
+      subst (λ (ns : List ℕ). AreHeld s frame ns (map tree_cell outcome.synthesised)) (sym (e ∙ is)) (values-held g parts r.production s frame w.held 0 attrs value-shown)
+
+  abbrev pub handed_cells : List (List CellTree)
+  handed_cells = map (row_cells g parts r.production s frame w.held between fine) later
+
+  -- and so does what it hands on
+  pub later-held : (read : List (List ℕ)) → read ≡ function.later → AreHeldEach s frame read handed_cells
+  later-held read e =
+      let is = ap (λ (f : Function). f.later) can.is_function in
+      subst (λ (ns : List (List ℕ)). AreHeldEach s frame ns handed_cells) (sym (e ∙ is)) (rows-held g parts r.production s frame w.held between fine later)
+
+  pub is-spelled : IsSpelledResult outcome
+  is-spelled = record {
+    synthesised = values-spelled g parts r.production s frame w.held 0 attrs value-shown;
+    bindings = rows-spelled g parts r.production s frame w.held between fine later;
+  }
+
+  abbrev lists : CellTree
+  lists = list_cell (map list_cell handed_cells)
+
+  lists-are : lists ≡ bindings_cell outcome.bindings
+  lists-are = ap list_cell (rows-cells g parts r.production s frame w.held between fine later)
+
+  ended : (t : Standing) (answer : Result Handle Full) → Builds s t (result_cell height (values_cell outcome.synthesised) lists) answer → Ends s t outcome answer
+  unfolding result_form
+  ended t answer built =
+      let same : result_cell height (values_cell outcome.synthesised) lists ≡ result_cell (suc w.height) (values_cell outcome.synthesised) (bindings_cell outcome.bindings) =
+      ap (λ n. result_cell n (values_cell outcome.synthesised) lists) can.is_height
+      ∙ ap (result_cell (suc w.height) (values_cell outcome.synthesised)) lists-are in
+      record { builds = builds-as s t _ _ answer same built; spelled = if-ok answer is-spelled }
+
+  pub ends-at-values : (t : Standing) (e : Full) (answer : Result Handle Full) → IsErr answer → Builds s t (values_cell outcome.synthesised) (Err e) → Ends s t outcome answer
+  ends-at-values t e answer is one = ended t answer (first-stopped height (values_cell outcome.synthesised) lists s t e answer is one)
+
+  pub ends-at-bindings : (t u : Standing) (first : Handle) (e : Full) (answer : Result Handle Full) → IsErr answer → Builds s t (values_cell outcome.synthesised) (Ok first)
+      → Builds t u lists (Err e) → Ends s u outcome answer
+  ends-at-bindings t u first e answer is one two = ended u answer (second-stopped height (values_cell outcome.synthesised) lists s t u first e answer is one two)
+
+  pub ends : (t u w : Standing) (first second : Handle) (answer : Result Handle Full) → Builds s t (values_cell outcome.synthesised) (Ok first) → Builds t u lists (Ok second)
+      → Builds u w (result_cell height (meant u first.0) (meant u second.0)) answer → Ends s w outcome answer
+  ends t u z first second answer one two three = ended z answer (both-built height (values_cell outcome.synthesised) lists s t u z first second answer one two three)
