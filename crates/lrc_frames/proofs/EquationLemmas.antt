@@ -1,10 +1,10 @@
 -- The equation of an occurrence: it is found by its number, it fits the node, and all that it reads is shown.
-use Rattle.std.proofs.Common.{◌≡◌, ℕ, zero, suc, ◌+◌, ◌<◌, ◌≤◌, Bool, true, false, ◌&&◌, cond, IsTrue, List, [], ◌∷◌, map, length, Contains, Option, Some, None, IsSome, slice_get, refl, sym, ap, ◌∙◌, subst, arith, inl, inr}
+use Rattle.std.proofs.Common.{◌≡◌, ℕ, zero, suc, ◌+◌, ◌-◌, ◌<◌, ◌≤◌, Bool, true, false, ◌&&◌, cond, IsTrue, List, [], ◌∷◌, map, length, Contains, Option, Some, None, IsSome, slice_get, get_or, refl, sym, ap, ◌∙◌, subst, arith, inl, inr}
 use Rattle.std.specs.Prelude.{find, ◌==◌, flat_map}
 use Rattle.std.specs.Option.{option_map, option_map_or, option_and_then}
 use Rattle.std.specs.List.{range_with_len, position_from}
 use Rattle.std.proofs.lemmas.Bool.{and_parts, false≢true}
-use Rattle.std.proofs.lemmas.Option.{none-some, same_Some, slice_get-get_or, slice_get_within}
+use Rattle.std.proofs.lemmas.Option.{none-some, same_Some, slice_get-get_or, slice_get_within, get_or_from_slice_get}
 use Rattle.std.proofs.lemmas.List.FromFn.{get_or-map-range_with_len, length-map-range_with_len}
 use Rattle.std.proofs.lemmas.List.Elements.{All-contains, Contains-append_cases}
 use Rattle.lrc_base.specs.declared.expr.Op.{Op}
@@ -77,8 +77,8 @@ module _ {X : Type 0} (test : X → Bool) where
   nowhere [] from e = refl
   nowhere (x ∷ xs) from e = nowhere-over x xs from (test x) e (nowhere xs (from + 1))
 
-same-equation : (occurrence : ℕ) (m n : Option ℕ) → op.Eval occurrence m ≡ op.Eval occurrence n → m ≡ n
-same-equation occurrence m n e = cc
+same-equation : (x : ℕ) (m n : Option ℕ) → op.Eval x m ≡ op.Eval x n → m ≡ n
+same-equation x m n e = cc
 
 module _ (sorts : List Sort) (parts : List Partition) (p : Production) (x : ℕ) (equation : Option ℕ) (less : x < length (occurrences_of sorts p)) (operation : operation_of sorts parts p (a.Eval x) ≡ op.Eval x equation) where
   equation-number : signature.equation_of p.equations x ≡ equation
@@ -179,7 +179,7 @@ pub kinds-count : (prods : List Production) (ts : Trees) (kids : List Kid) → I
 kinds-count prods none [] h = refl
 kinds-count prods none (kid ∷ kids) h = absurd (false≢true h)
 kinds-count prods (more t ts) [] h = absurd (false≢true h)
-kinds-count prods (more t ts) (kid ∷ kids) h = let rest = kinds-count prods ts kids (and_parts _ _ h).1 in omega arith
+kinds-count prods (more t ts) (kid ∷ kids) h = let rest : length (in_order ts) ≡ length kids = kinds-count prods ts kids (and_parts (is_of_kind prods t kid.kind) (are_of_kinds prods ts kids) h).1 in omega arith
 
 same-value : (i j : ℕ) → b.Value i ≡ b.Value j → i ≡ j
 same-value i j e = cc
@@ -203,6 +203,15 @@ value-within sorts parts p i listed =
           let later = member_of_map (b.Kid symbol.0 earlier.0) (range_with_len (earlier.0 + 1) (n - earlier.0)) (b.Value i) earlier.2 in
           absurd (no-value symbol.0 earlier.0 later.0 i later.2)
     ]
+
+-- ---- what is read off lists
+
+module _ {X : Type 0} (xs read : List X) (i : ℕ) (x : X) (there : slice_get xs i ≡ Some x) (same : read ≡ xs) where
+  read-within : i < length read
+  read-within = let within = slice_get_within xs i x there in let size = ap length same in omega (arith, within, size)
+
+  read-is : (y : X) → y ≡ get_or read i y → y ≡ x
+  read-is y e = e ∙ ap (λ (ys : List X). get_or ys i y) same ∙ get_or_from_slice_get xs i x y there
 
 -- what an equation of the body is evaluated over
 abbrev pub inputs : Grammar → Body → Run → Inputs
@@ -232,3 +241,28 @@ module _ (g : Grammar) (parts : List Partition) (formed : IsTrue (is_well_formed
         };
     fits = equation-fits g formed few body.production r.production can.runs.there n e at;
   }
+
+  module _ (s : Standing) (frame : List Val) (body : Body) (x : ℕ) (equation : Option ℕ) (r : Run) (can : CanEvaluate g parts s frame body x equation r) where
+    pub production-within : (prods : List Production) → prods ≡ g.prods → body.production < length prods
+    production-within prods same = read-within g.prods prods body.production r.production can.runs.there same
+
+    -- the equation of this number, as it is read off the grammar
+    module _ (n : ℕ) (is : equation ≡ Some n) (prods : List Production) (q : Production) (equations : List Equation) (same : prods ≡ g.prods) (q-is : q ≡ get_or prods body.production q) (same-equations : equations ≡ q.equations) where
+      there : (e : Equation) × (slice_get r.production.equations n ≡ Some e) × (equation_of r.production x ≡ Some e)
+      there = equation-found g.sorts parts r.production x equation can.occurrence can.operation n is
+
+      read-same : equations ≡ r.production.equations
+      read-same = same-equations ∙ ap (λ (p : Production). p.equations) (read-is g.prods prods body.production r.production can.runs.there same q q-is)
+
+      pub equation-within : n < length equations
+      equation-within = read-within r.production.equations equations n there.0 there.1 read-same
+
+      module _ (e : Equation) (e-is : e ≡ get_or equations n e) where
+        own : there.0 ≡ e
+        own = sym (read-is r.production.equations equations n there.0 there.1 read-same e e-is)
+
+        pub equation-is : equation_of r.production x ≡ Some e
+        equation-is = there.2 ∙ ap Some own
+
+        pub equation-given : AreGiven s frame body.tree (inputs g body r) (expression e.expr)
+        equation-given = given s frame body x equation r can n e (there.1 ∙ ap Some own) equation-is

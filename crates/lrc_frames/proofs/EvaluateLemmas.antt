@@ -1,5 +1,5 @@
 -- What the evaluation of an occurrence answers, by what the evaluation of its equation answers.
-use Rattle.std.proofs.Common.{◌≡◌, ℕ, ◌+◌, ◌<◌, ◌≤◌, Bool, true, false, IsTrue, List, [], ◌∷◌, ◌++◌, map, set, length, Option, Some, None, slice_get, refl, sym, ap, ◌∙◌, subst, arith}
+use Rattle.std.proofs.Common.{◌≡◌, ℕ, ◌+◌, ◌<◌, ◌≤◌, Bool, true, false, IsTrue, List, [], ◌∷◌, ◌++◌, map, set, length, Contains, Option, Some, None, slice_get, refl, sym, ap, ◌∙◌, subst, arith}
 use Rattle.std.specs.Prelude.{Result, Ok, Err, IsErr}
 use Rattle.std.specs.Option.{option_map_or, option_and_then}
 use Rattle.std.proofs.lemmas.Bool.{false≢true}
@@ -9,6 +9,8 @@ use Rattle.lrc_meaning.specs.Tree.{Tree}
 use Rattle.lrc_meaning.specs.Expression.{Expression, expression, value_of}
 use Rattle.lrc_meaning.specs.Grammar.{Grammar, is_well_formed}
 use Rattle.lrc_order_meaning.specs.declared.Partition.{Partition}
+use Rattle.lrc_plan_meaning.specs.declared.Bound.TheVariants as b
+use Rattle.lrc_plan_meaning.specs.Bindings.{items_of}
 use Rattle.lrc_plan.proofs.ListedLemmas.{value_listed}
 use Rattle.lrc_visit_meaning.specs.Visits.{leaf_in, equation_of, values_in, evaluated}
 use Rattle.lrc_visit_meaning.specs.Demand.{built, equation_met, built_in}
@@ -27,7 +29,7 @@ use Rattle.lrc_frames.specs.declared.body.Body.{Body}
 use Rattle.lrc_frames.specs.Frames.{Run}
 use Rattle.lrc_frames.specs.Steps.{evaluation_cells, Evaluates}
 use Rattle.lrc_frames.specs.Writing.{CanEvaluate}
-use Rattle.lrc_frames.proofs.FrameLemmas.{runs_last, runs_evaluated}
+use Rattle.lrc_frames.proofs.FrameLemmas.{within_frame, runs_last, runs_evaluated}
 use Rattle.lrc_frames.proofs.EquationLemmas.{inputs}
 
 built-are : (ts : List Tree) → cells_of (map built ts) ≡ cells_of_trees ts
@@ -38,6 +40,12 @@ built-are (t ∷ ts) = ap (λ cs. parts_of (tree_cell t) ++ cs) (built-are ts)
 module _ (g : Grammar) (parts : List Partition) (s : Standing) (frame : List Val) (body : Body) (x : ℕ) (equation : Option ℕ) (r : Run) (can : CanEvaluate g parts s frame body x equation r) where
   abbrev cells : List CellTree
   cells = evaluation_cells g parts r x
+
+  listed : IsTrue (is_well_formed g) → Contains (items_of g.sorts parts r.production) (b.Value x)
+  listed formed = value_listed g.sorts parts g.prods r.production (production_right g formed body.production r.production can.runs.there) x can.occurrence
+
+  pub occurrence-within : IsTrue (is_well_formed g) → x < length frame
+  occurrence-within formed = within_frame g parts s body r frame (b.Value x) can.runs.room (listed formed)
 
   -- an occurrence without an equation has no value
   pub evaluates-nothing : equation_of r.production x ≡ None → Evaluates g parts s s frame body r x (Ok false)
@@ -75,13 +83,12 @@ module _ (g : Grammar) (parts : List Partition) (s : Standing) (frame : List Val
 
       pub evaluates-some : IsTrue (is_well_formed g) → (value : Val) → Answers (Ok (Some value)) → Evaluates g parts s t (set frame x value) body r x (Ok true)
       evaluates-some formed value h =
-          let listed = value_listed g.sorts parts g.prods r.production (production_right g formed body.production r.production can.runs.there) x can.occurrence in
           record {
             adds = adds (Ok (Some value)) h;
             ok = (
               h.found.0,
               value-is ∙ h.found.1,
-              runs_evaluated g parts t body r frame x value h.found.0 listed h.found.2 (runs_last g parts s t frame body r h.adds.gains.lasts.known can.runs),
+              runs_evaluated g parts t body r frame x value h.found.0 (listed formed) h.found.2 (runs_last g parts s t frame body r h.adds.gains.lasts.known can.runs),
               subst (λ (cs : List CellTree). Told t.seen (IsWithin cs)) cells-are h.seen,
             );
             full = tt;

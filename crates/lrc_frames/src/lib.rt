@@ -7,7 +7,9 @@
 
 mod body;
 mod ending;
+mod evaluating;
 mod items;
 
 pub use body::Body;
 pub use ending::finish;
+pub use evaluating::evaluate_into;
