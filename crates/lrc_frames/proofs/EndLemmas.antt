@@ -15,10 +15,9 @@ use Rattle.lrc_store.specs.Cells.{CellTree, number, pair, parts as parts_of, IsW
 use Rattle.lrc_store.specs.Standing.{Standing, meant}
 use Rattle.lrc_store.specs.declared.cells.Handle.{Handle}
 use Rattle.lrc_store.specs.declared.stores.Full.{Full}
-use Rattle.lrc_store.proofs.Known.{stands-meant}
 use Rattle.lrc_code.specs.Forms.{list_cell, tree_cell, result_cell}
 use Rattle.lrc_code.specs.Building.{Builds}
-use Rattle.lrc_code.proofs.Growing.{left-within, right-within, builds-then, builds-stopped, builds-as}
+use Rattle.lrc_code.proofs.Growing.{left-within, right-within, builds-as}
 use Rattle.lrc_call_meaning.specs.Forms.{values_cell, bindings_cell, result_form}
 use Rattle.lrc_call_meaning.specs.Spelled.{IsSpelledResult}
 use Rattle.lrc_eval.specs.declared.values.Val.{Val}
@@ -28,6 +27,7 @@ use Rattle.lrc_functions.specs.Functions.{function_of}
 use Rattle.lrc_frames.specs.Frames.{Run, ShowsAt}
 use Rattle.lrc_frames.specs.Steps.{IsProper}
 use Rattle.lrc_frames.specs.Writing.{AreHeld, AreHeldEach, CanEnd, Ends}
+use Rattle.lrc_frames.proofs.ItemLemmas.{one-stopped, other-stopped, both-built}
 use Rattle.lrc_frames.proofs.ShownLemmas.{IsShown, row_cells, values-held, values-spelled, rows-held, rows-cells, rows-spelled}
 
 -- what holds in any case holds where a call succeeds
@@ -46,23 +46,6 @@ module _ (height : ℕ) (synthesised bindings : CellTree) where
 
   bindings-within : IsWithin (parts_of bindings) (parts_of whole)
   bindings-within part h = right-within 6 (number (pos height)) (pair 5 synthesised bindings) part (right-within 5 synthesised bindings part h)
-
-  first-stopped : (s t : Standing) (e : Full) (answer : Result Handle Full) → IsErr answer → Builds s t synthesised (Err e) → Builds s t whole answer
-  first-stopped s t e answer is one = builds-stopped s t synthesised whole e answer synthesised-within is one
-
-  second-stopped : (s t u : Standing) (first : Handle) (e : Full) (answer : Result Handle Full) → IsErr answer → Builds s t synthesised (Ok first) → Builds t u bindings (Err e) → Builds s u whole answer
-  second-stopped s t u first e answer is one two =
-      builds-then s t u synthesised whole answer synthesised-within one.adds (builds-stopped t u bindings whole e answer bindings-within is two)
-
-  both-built : (s t u w : Standing) (first second : Handle) (answer : Result Handle Full) → Builds s t synthesised (Ok first) → Builds t u bindings (Ok second)
-      → Builds u w (result_cell height (meant u first.0) (meant u second.0)) answer → Builds s w whole answer
-  both-built s t u w first second answer one two three =
-      let left : meant u first.0 ≡ synthesised = stands-meant u first.0 synthesised (two.adds.gains.lasts.known first.0 synthesised one.ok.stands) in
-      let right : meant u second.0 ≡ bindings = stands-meant u second.0 bindings two.ok.stands in
-      let same : result_cell height (meant u first.0) (meant u second.0) ≡ whole =
-      ap (λ c. result_cell height c (meant u second.0)) left ∙ ap (result_cell height synthesised) right in
-      builds-then s t w synthesised whole answer synthesised-within one.adds
-      (builds-then t u w bindings whole answer bindings-within two.adds (builds-as u w (result_cell height (meant u first.0) (meant u second.0)) whole answer same three))
 
 -- ---- a visit that can end
 
@@ -128,13 +111,22 @@ module _ (g : Grammar) (parts : List Partition) (s : Standing) (frame : List Val
       ∙ ap (result_cell (suc w.height) (values_cell outcome.synthesised)) lists-are in
       record { builds = builds-as s t _ _ answer same built; spelled = if-ok answer is-spelled }
 
+  abbrev whole_cell : CellTree
+  whole_cell = result_cell height (values_cell outcome.synthesised) lists
+
+  values-in : IsWithin (parts_of (values_cell outcome.synthesised)) (parts_of whole_cell)
+  values-in = synthesised-within height (values_cell outcome.synthesised) lists
+
+  lists-in : IsWithin (parts_of lists) (parts_of whole_cell)
+  lists-in = bindings-within height (values_cell outcome.synthesised) lists
+
   pub ends-at-values : (t : Standing) (e : Full) (answer : Result Handle Full) → IsErr answer → Builds s t (values_cell outcome.synthesised) (Err e) → Ends s t outcome answer
-  ends-at-values t e answer is one = ended t answer (first-stopped height (values_cell outcome.synthesised) lists s t e answer is one)
+  ends-at-values t e answer is one = ended t answer (one-stopped (values_cell outcome.synthesised) lists whole_cell values-in lists-in s t e answer is one)
 
   pub ends-at-bindings : (t u : Standing) (first : Handle) (e : Full) (answer : Result Handle Full) → IsErr answer → Builds s t (values_cell outcome.synthesised) (Ok first)
       → Builds t u lists (Err e) → Ends s u outcome answer
-  ends-at-bindings t u first e answer is one two = ended u answer (second-stopped height (values_cell outcome.synthesised) lists s t u first e answer is one two)
+  ends-at-bindings t u first e answer is one two = ended u answer (other-stopped (values_cell outcome.synthesised) lists whole_cell values-in lists-in s t u first e answer is one two)
 
   pub ends : (t u w : Standing) (first second : Handle) (answer : Result Handle Full) → Builds s t (values_cell outcome.synthesised) (Ok first) → Builds t u lists (Ok second)
       → Builds u w (result_cell height (meant u first.0) (meant u second.0)) answer → Ends s w outcome answer
-  ends t u z first second answer one two three = ended z answer (both-built height (values_cell outcome.synthesised) lists s t u z first second answer one two three)
+  ends t u z first second answer one two three = ended z answer (both-built (values_cell outcome.synthesised) lists whole_cell values-in lists-in s t u z first second (result_cell height) answer refl one two three)

@@ -14,7 +14,7 @@ use Rattle.lrc_store.proofs.Known.{stands-known, stands-meant}
 use Rattle.lrc_store.proofs.Lasting.{adds-same}
 use Rattle.lrc_code.specs.Forms.{more_cell, list_cell, tree_cell}
 use Rattle.lrc_code.specs.Building.{Builds}
-use Rattle.lrc_code.proofs.Growing.{left-within, right-within, linked, adds-behind, more-stopped, tells-as}
+use Rattle.lrc_code.proofs.Growing.{left-within, right-within, builds-as, builds-then, builds-stopped, linked, adds-behind, more-stopped, tells-as}
 use Rattle.lrc_eval.specs.declared.values.Val.{Val}
 use Rattle.lrc_eval.specs.declared.values.Val.TheVariants as v
 use Rattle.lrc_eval.specs.Values.{Means}
@@ -163,3 +163,23 @@ module _ (o s t : Standing) (list : Handle) (cells : List CellTree) (n done : �
           adds = adds-behind o s u longer (list_cell cells) (Ok more) longer-within made.adds whole;
           tells = tells-as u more.0 longer (list_cell (drop (n - (done + 1)) cells)) (sym (next-item cells n done c made.all h at)) whole.ok;
         }
+
+-- ---- two cells that a whole is made of
+
+module _ (one other whole : CellTree) (one-within : IsWithin (parts one) (parts whole)) (other-within : IsWithin (parts other) (parts whole)) where
+  pub one-stopped : (s t : Standing) (e : Full) (answer : Result Handle Full) → IsErr answer → Builds s t one (Err e) → Builds s t whole answer
+  one-stopped s t e answer is first = builds-stopped s t one whole e answer one-within is first
+
+  pub other-stopped : (s t u : Standing) (a : Handle) (e : Full) (answer : Result Handle Full) → IsErr answer → Builds s t one (Ok a) → Builds t u other (Err e) → Builds s u whole answer
+  other-stopped s t u a e answer is first second =
+      builds-then s t u one whole answer one-within first.adds (builds-stopped t u other whole e answer other-within is second)
+
+  -- the whole over both, once they are in the store
+  pub both-built : (s t u w : Standing) (a b : Handle) (joined : CellTree → CellTree → CellTree) (answer : Result Handle Full) → joined one other ≡ whole → Builds s t one (Ok a) → Builds t u other (Ok b)
+      → Builds u w (joined (meant u a.0) (meant u b.0)) answer → Builds s w whole answer
+  both-built s t u w a b joined answer is first second third =
+      let left : meant u a.0 ≡ one = stands-meant u a.0 one (second.adds.gains.lasts.known a.0 one first.ok.stands) in
+      let right : meant u b.0 ≡ other = stands-meant u b.0 other second.ok.stands in
+      let same : joined (meant u a.0) (meant u b.0) ≡ whole = ap (λ c. joined c (meant u b.0)) left ∙ ap (joined one) right ∙ is in
+      builds-then s t w one whole answer one-within first.adds
+      (builds-then t u w other whole answer other-within second.adds (builds-as u w (joined (meant u a.0) (meant u b.0)) whole answer same third))

@@ -4,3 +4,6 @@ pub mod ShownLemmas
 pub mod EndLemmas
 pub mod EquationLemmas
 pub mod EvaluateLemmas
+pub mod NodeLemmas
+pub mod SymbolLemmas
+pub mod CallLemmas

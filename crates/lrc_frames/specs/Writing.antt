@@ -1,6 +1,8 @@
 -- What the steps that write to the store ask of a visit that runs, and which cells the values of a frame hold.
-use Rattle.std.specs.Prelude.{◌≡◌, ℕ, suc, ◌<◌, List, length, Option, Some, All, Contains, slice_get, Result, IfOk}
-use Rattle.lrc_meaning.specs.Tree.{Tree}
+use Rattle.std.specs.Prelude.{◌≡◌, ℕ, suc, ◌<◌, true, false, List, length, Option, Some, None, All, Contains, slice_get, MatchOption, Result, IfOk}
+use Rattle.lrc_base.specs.declared.grammar.Kind.TheVariants as k
+use Rattle.lrc_base.specs.declared.grammar.Production.{Production}
+use Rattle.lrc_meaning.specs.Tree.{Tree, int, bool, name, node}
 use Rattle.lrc_meaning.specs.Grammar.{Grammar, occurrences_of}
 use Rattle.lrc_order_meaning.specs.declared.Partition.{Partition}
 use Rattle.lrc_base.specs.declared.signature.Origin.{Origin}
@@ -9,7 +11,7 @@ use Rattle.lrc_plan_meaning.specs.declared.Action.TheVariants as a
 use Rattle.lrc_plan_meaning.specs.Items.{needs}
 use Rattle.lrc_plan_meaning.specs.Sound.{IsVisitThere}
 use Rattle.lrc_visit_meaning.specs.Values as plain
-use Rattle.lrc_visit_meaning.specs.Visits.{Walked}
+use Rattle.lrc_visit_meaning.specs.Visits.{Walked, is_of_kind}
 use Rattle.lrc_store.specs.Cells.{CellTree, number}
 use Rattle.lrc_store.specs.Standing.{Standing, Stands, meant}
 use Rattle.lrc_store.specs.declared.cells.Handle.{Handle}
@@ -57,6 +59,22 @@ pub record AreHeldEach (s : Standing) (frame : List Val) (lists : List (List ℕ
 abbrev pub StandsAt : Standing → List Val → Body → Origin → Tree → Type 0
 StandsAt s frame body (origin.Child i) t = HasKid (meant s body.tree.0) i (tree_cell t)
 StandsAt s frame body (origin.Value o) t = (value : Val) × (slice_get frame o ≡ Some value) × Means s value t
+
+-- the number of a node's production; none of a leaf
+abbrev pub node_production : Tree → Option ℕ
+node_production (int i) = None
+node_production (bool b) = None
+node_production (name n) = None
+node_production (node p kids) = Some p
+
+-- a handle of the tree, where it is no leaf of a number or a truth value
+abbrev pub FindsTree : Standing → Tree → Option Handle → Type 0
+FindsTree s t answer = MatchOption answer (node_production t ≡ None) (λ handle. Stands s handle.0 (tree_cell t))
+
+-- a handle of the tree, just where it is a node of this sort
+abbrev pub FindsNode : List Production → Standing → ℕ → Tree → Option Handle → Type 0
+FindsNode prods s sort t answer =
+    MatchOption answer (is_of_kind prods t (k.Sort sort) ≡ false) (λ handle. (is_of_kind prods t (k.Sort sort) ≡ true) × Stands s handle.0 (tree_cell t))
 
 -- what a call answers that makes a result: a handle of its cell, and the names in it are spelled
 pub record Ends (s t : Standing) (outcome : plain.Result) (answer : Result Handle Full) : Type 0 where

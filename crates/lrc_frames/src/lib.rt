@@ -6,10 +6,13 @@
 #![tactic(auto)]
 
 mod body;
+mod calling;
 mod ending;
 mod evaluating;
 mod items;
+mod nodes;
 
 pub use body::Body;
+pub use calling::make_call;
 pub use ending::finish;
 pub use evaluating::evaluate_into;
