@@ -1,5 +1,5 @@
 -- A call is made of the symbol's tree and of what stands at the numbers of its callee; and what its making answers.
-use Rattle.std.proofs.Common.{◌≡◌, ℕ, ◌+◌, ◌-◌, ◌<◌, ◌≤◌, Bool, true, false, cond, List, [], ◌∷◌, ◌++◌, map, length, Contains, Option, Some, None, refl, sym, ap, ◌∙◌, subst, arith, inl, inr}
+use Rattle.std.proofs.Common.{◌≡◌, ℕ, ◌+◌, ◌-◌, ◌≤◌, true, false, cond, List, [], ◌++◌, map, Contains, Option, Some, None, refl, sym, ap, ◌∙◌, subst, arith, inl, inr}
 use Rattle.std.specs.Prelude.{Result, Ok, Err, IsErr}
 use Rattle.std.specs.List.{range_with_len}
 use Rattle.std.proofs.Math.Logic.{∥∥₁_elim}
@@ -8,23 +8,21 @@ use Rattle.std.proofs.lemmas.List.Elements.{All-contains, Contains-append_left, 
 use Rattle.lrc_base.specs.declared.grammar.Kind.TheVariants as k
 use Rattle.lrc_base.specs.declared.grammar.Production.{Production}
 use Rattle.lrc_base.specs.declared.signature.Origin.{Origin}
-use Rattle.lrc_meaning.specs.Tree.{Tree}
 use Rattle.lrc_meaning.specs.Grammar.{Grammar}
 use Rattle.lrc_meaning.specs.Limits.{IsWithinLimits}
 use Rattle.lrc_order_meaning.specs.declared.Place.{Place}
 use Rattle.lrc_order_meaning.specs.declared.Partition.{Partition}
 use Rattle.lrc_order_meaning.specs.Ordered.{Partitions, HasOrder}
-use Rattle.lrc_plan_meaning.specs.declared.Action.TheVariants as a
 use Rattle.lrc_plan_meaning.specs.declared.Bound.{Bound}
 use Rattle.lrc_plan_meaning.specs.declared.Bound.TheVariants as b
-use Rattle.lrc_plan_meaning.specs.Items.{visits_of, attrs_of_visit, values_of_visit, tree_of, taken, symbol_at, needs}
+use Rattle.lrc_plan_meaning.specs.Items.{attrs_of_visit, values_of_visit, tree_of, taken, symbol_at}
 use Rattle.lrc_plan_meaning.specs.Sound.{IsVisitThere}
 use Rattle.lrc_visit_meaning.specs.Values.{Call}
-use Rattle.lrc_visit_meaning.specs.Visits.{is_of_kind, tree_at, call_of}
+use Rattle.lrc_visit_meaning.specs.Visits.{is_of_kind, call_of}
 use Rattle.lrc_cell_laws.proofs.TagLemmas.{nine_visits}
 use Rattle.lrc_store.specs.Cells.{CellTree, pair, parts as parts_of, IsWithin}
 use Rattle.lrc_store.specs.Standing.{Standing, Stands, meant}
-use Rattle.lrc_store.specs.Words.{Reads, Adds, LacksOne}
+use Rattle.lrc_store.specs.Words.{Keeps, Reads, Adds, LacksOne}
 use Rattle.lrc_store.specs.declared.cells.Handle.{Handle}
 use Rattle.lrc_store.specs.declared.stores.Full.{Full}
 use Rattle.lrc_store.proofs.Known.{stands-meant}
@@ -35,13 +33,13 @@ use Rattle.lrc_code.proofs.Growing.{left-within, right-within, builds-then}
 use Rattle.lrc_call_meaning.specs.Forms.{values_cell, bindings_cell, binding_cell, call_form}
 use Rattle.lrc_call_meaning.specs.Spelled.{IsSpelledCall}
 use Rattle.lrc_eval.specs.declared.values.Val.{Val}
+use Rattle.lrc_functions.specs.Numbers.{number}
 use Rattle.lrc_functions.specs.declared.function.Callee.{Callee}
-use Rattle.lrc_functions.specs.Functions.{callee_of}
 use Rattle.lrc_frames.specs.declared.body.Body.{Body}
 use Rattle.lrc_frames.specs.Frames.{Run}
 use Rattle.lrc_frames.specs.Steps.{is_callable, call_cells, Calls}
-use Rattle.lrc_frames.specs.Writing.{AreHeld, StandsAt, FindsNode, CanCall}
-use Rattle.lrc_frames.proofs.ItemLemmas.{one-stopped, other-stopped, both-built}
+use Rattle.lrc_frames.specs.Writing.{AreHeld, FindsNode, CanCall}
+use Rattle.lrc_frames.proofs.ItemLemmas.{held-lasts, one-stopped, other-stopped, both-built}
 use Rattle.lrc_frames.proofs.ShownLemmas.{IsShown, values-held, values-spelled, bounds-held, bounds-spelled}
 use Rattle.lrc_frames.proofs.SymbolLemmas.{TreeThere, tree-there}
 
@@ -136,15 +134,19 @@ module _ (g : Grammar) (parts : List Partition) (s : Standing) (frame : List Val
   bound-shown : (x : Bound) → Contains earlier x → IsShown g parts r.production s frame r.held x
   bound-shown x c = can.runs.holds x (available x (Contains-append_right (tree_of place) (inherited ++ earlier) x (Contains-append_right inherited earlier x c)))
 
-  pub inherited-held : (read : List ℕ) → read ≡ callee.inherited → AreHeld s frame read (map tree_cell call.inherited)
-  inherited-held read e =
-      let is = ap (λ (c : Callee). c.inherited) can.is_callee in
-      subst (λ (ns : List ℕ). AreHeld s frame ns (map tree_cell call.inherited)) (sym (e ∙ is)) (values-held g parts r.production s frame r.held place.start attrs value-shown)
+  -- what it takes stands at the numbers of its callee, later too
+  module _ (t : Standing) (keeps : Keeps s t) where
+    pub inherited-held : (read : List ℕ) → read ≡ callee.inherited → AreHeld t frame read (map tree_cell call.inherited)
+    inherited-held read e =
+        let is = ap (λ (c : Callee). c.inherited) can.is_callee in
+        subst (λ (ns : List ℕ). AreHeld t frame ns (map tree_cell call.inherited)) (sym (e ∙ is))
+        (held-lasts s t frame (map (λ x. place.start + x) attrs) (map tree_cell call.inherited) keeps (values-held g parts r.production s frame r.held place.start attrs value-shown))
 
-  pub earlier-held : (read : List ℕ) → read ≡ callee.earlier → AreHeld s frame read (map binding_cell call.bindings)
-  earlier-held read e =
-      let is = ap (λ (c : Callee). c.earlier) can.is_callee in
-      subst (λ (ns : List ℕ). AreHeld s frame ns (map binding_cell call.bindings)) (sym (e ∙ is)) (bounds-held g parts r.production s frame r.held n v visits bound-shown)
+    pub earlier-held : (read : List ℕ) → read ≡ callee.earlier → AreHeld t frame read (map binding_cell call.bindings)
+    earlier-held read e =
+        let is = ap (λ (c : Callee). c.earlier) can.is_callee in
+        subst (λ (ns : List ℕ). AreHeld t frame ns (map binding_cell call.bindings)) (sym (e ∙ is))
+        (held-lasts s t frame (map (λ u. number g.sorts parts r.production (b.Kid n u v)) visits) (map binding_cell call.bindings) keeps (bounds-held g parts r.production s frame r.held n v visits bound-shown))
 
   call-spelled : IsSpelledCall call
   call-spelled = record {

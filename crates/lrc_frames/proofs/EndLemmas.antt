@@ -1,5 +1,5 @@
 -- A result is made of its lists: its cell is built part by part, and what it gives stands at the numbers of its function.
-use Rattle.std.proofs.Common.{◌≡◌, ℕ, suc, ◌+◌, ◌-◌, true, false, List, map, Contains, Some, refl, sym, ap, ◌∙◌, subst}
+use Rattle.std.proofs.Common.{◌≡◌, ℕ, suc, ◌+◌, ◌-◌, false, List, map, Contains, refl, sym, ap, ◌∙◌, subst}
 use Rattle.std.specs.Prelude.{Result, Ok, Err, IsErr, IfOk}
 use Rattle.std.specs.List.{range_with_len}
 use lib.IntN.{pos}
@@ -13,6 +13,7 @@ use Rattle.lrc_visit_meaning.specs.Values as plain
 use Rattle.lrc_visit_meaning.specs.Visits.{Held, Walked, result_of}
 use Rattle.lrc_store.specs.Cells.{CellTree, number, pair, parts as parts_of, IsWithin}
 use Rattle.lrc_store.specs.Standing.{Standing, meant}
+use Rattle.lrc_store.specs.Words.{Keeps}
 use Rattle.lrc_store.specs.declared.cells.Handle.{Handle}
 use Rattle.lrc_store.specs.declared.stores.Full.{Full}
 use Rattle.lrc_code.specs.Forms.{list_cell, tree_cell, result_cell}
@@ -23,11 +24,10 @@ use Rattle.lrc_call_meaning.specs.Spelled.{IsSpelledResult}
 use Rattle.lrc_eval.specs.declared.values.Val.{Val}
 use Rattle.lrc_functions.specs.Numbers.{number as number_of}
 use Rattle.lrc_functions.specs.declared.function.Function.{Function}
-use Rattle.lrc_functions.specs.Functions.{function_of}
 use Rattle.lrc_frames.specs.Frames.{Run, ShowsAt}
 use Rattle.lrc_frames.specs.Steps.{IsProper}
 use Rattle.lrc_frames.specs.Writing.{AreHeld, AreHeldEach, CanEnd, Ends}
-use Rattle.lrc_frames.proofs.ItemLemmas.{one-stopped, other-stopped, both-built}
+use Rattle.lrc_frames.proofs.ItemLemmas.{each-lasts, one-stopped, other-stopped, both-built}
 use Rattle.lrc_frames.proofs.ShownLemmas.{IsShown, row_cells, values-held, values-spelled, rows-held, rows-cells, rows-spelled}
 
 -- what holds in any case holds where a call succeeds
@@ -85,11 +85,12 @@ module _ (g : Grammar) (parts : List Partition) (s : Standing) (frame : List Val
   abbrev pub handed_cells : List (List CellTree)
   handed_cells = map (row_cells g parts r.production s frame w.held between fine) later
 
-  -- and so does what it hands on
-  pub later-held : (read : List (List ℕ)) → read ≡ function.later → AreHeldEach s frame read handed_cells
-  later-held read e =
+  -- and so does what it hands on, later too
+  pub later-held : (t : Standing) → Keeps s t → (read : List (List ℕ)) → read ≡ function.later → AreHeldEach t frame read handed_cells
+  later-held t keeps read e =
       let is = ap (λ (f : Function). f.later) can.is_function in
-      subst (λ (ns : List (List ℕ)). AreHeldEach s frame ns handed_cells) (sym (e ∙ is)) (rows-held g parts r.production s frame w.held between fine later)
+      subst (λ (ns : List (List ℕ)). AreHeldEach t frame ns handed_cells) (sym (e ∙ is))
+      (each-lasts s t frame (map (λ u. map (number_of g.sorts parts r.production) (between u)) later) handed_cells keeps (rows-held g parts r.production s frame w.held between fine later))
 
   pub is-spelled : IsSpelledResult outcome
   is-spelled = record {

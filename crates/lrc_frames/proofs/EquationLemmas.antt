@@ -1,7 +1,7 @@
 -- The equation of an occurrence: it is found by its number, it fits the node, and all that it reads is shown.
-use Rattle.std.proofs.Common.{◌≡◌, ℕ, zero, suc, ◌+◌, ◌-◌, ◌<◌, ◌≤◌, Bool, true, false, ◌&&◌, cond, IsTrue, List, [], ◌∷◌, map, length, Contains, Option, Some, None, IsSome, slice_get, get_or, refl, sym, ap, ◌∙◌, subst, arith, inl, inr}
+use Rattle.std.proofs.Common.{◌≡◌, ℕ, suc, ◌+◌, ◌-◌, ◌<◌, ◌≤◌, Bool, true, false, ◌&&◌, cond, IsTrue, List, [], ◌∷◌, map, length, Contains, Option, Some, None, IsSome, slice_get, get_or, refl, sym, ap, ◌∙◌, subst, arith, inl, inr}
 use Rattle.std.specs.Prelude.{find, ◌==◌, flat_map}
-use Rattle.std.specs.Option.{option_map, option_map_or, option_and_then}
+use Rattle.std.specs.Option.{option_map_or, option_and_then}
 use Rattle.std.specs.List.{range_with_len, position_from}
 use Rattle.std.proofs.lemmas.Bool.{and_parts, false≢true}
 use Rattle.std.proofs.lemmas.Option.{none-some, same_Some, slice_get-get_or, slice_get_within, get_or_from_slice_get}
@@ -15,7 +15,7 @@ use Rattle.lrc_base.specs.declared.grammar.Kid.{Kid}
 use Rattle.lrc_base.specs.declared.grammar.Sort.{Sort}
 use Rattle.lrc_base.specs.declared.grammar.Equation.{Equation}
 use Rattle.lrc_base.specs.declared.grammar.Production.{Production}
-use Rattle.lrc_meaning.specs.Tree.{Tree, Trees, none, more, same_kind, in_order}
+use Rattle.lrc_meaning.specs.Tree.{Trees, none, more, same_kind, in_order}
 use Rattle.lrc_meaning.specs.Expression.{Expression, literal, occurrence, leaf, binary, choice, make, Expressions, no_more, and_more, expression}
 use Rattle.lrc_meaning.specs.Grammar.{Grammar, Occurrence, occurrences_of, common_kind, of_kind, operated_kind, leaf_kind, expression_kind, have_kinds, is_equation_right, is_well_formed}
 use Rattle.lrc_meaning.specs.Signature as signature
@@ -23,21 +23,20 @@ use Rattle.lrc_meaning.specs.Signature.{signed_occurrences}
 use Rattle.lrc_meaning.proofs.ListLemmas.{list_all-at}
 use Rattle.lrc_meaning.proofs.SignatureLemmas.{signed_count}
 use Rattle.lrc_order_meaning.specs.declared.Partition.{Partition}
-use Rattle.lrc_order_meaning.specs.Needs.{reads, symbols_of}
-use Rattle.lrc_order_meaning.proofs.MemberLemmas.{member_slice, member_of_map, member_of_flat, member_of_range}
+use Rattle.lrc_order_meaning.specs.Needs.{symbols_of}
+use Rattle.lrc_order_meaning.proofs.MemberLemmas.{member_of_map, member_of_flat, member_of_range}
 use Rattle.lrc_plan_meaning.specs.declared.Action.TheVariants as a
-use Rattle.lrc_plan_meaning.specs.declared.Bound.{Bound}
 use Rattle.lrc_plan_meaning.specs.declared.Bound.TheVariants as b
 use Rattle.lrc_plan_meaning.specs.Items.{visits_of, symbol_at, needs}
 use Rattle.lrc_plan_meaning.specs.Bindings.{bindings_at, items_of}
 use Rattle.lrc_visit_meaning.specs.Values.{value_in}
-use Rattle.lrc_visit_meaning.specs.Visits.{Held, is_of_kind, are_of_kinds, equation_of, values_in}
+use Rattle.lrc_visit_meaning.specs.Visits.{is_of_kind, are_of_kinds, equation_of, values_in}
 use Rattle.lrc_laws.proofs.FuelLemmas.{mapped, bound_by, where_true}
 use Rattle.lrc_laws.proofs.FormedLemmas.{production_right}
 use Rattle.lrc_laws.proofs.ReadLemmas.{found_there, read_needed}
 use Rattle.lrc_store.specs.Standing.{Standing}
 use Rattle.lrc_eval.specs.declared.values.Val.{Val}
-use Rattle.lrc_eval.specs.Evaluating.{Inputs, FitsNode, EachFitsNode, IsSet, AreGiven}
+use Rattle.lrc_eval.specs.Evaluating.{Inputs, FitsNode, EachFitsNode, AreGiven}
 use Rattle.lrc_functions.specs.declared.function.Operation.TheVariants as op
 use Rattle.lrc_functions.specs.Functions.{operation_of}
 use Rattle.lrc_frames.specs.declared.body.Body.{Body}

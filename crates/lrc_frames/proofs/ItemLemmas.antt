@@ -1,6 +1,6 @@
 -- Lists of cells that are made from the last item to the first, and the cells that values hold.
 use lib.IntN.{pos}
-use Rattle.std.proofs.Common.{◌≡◌, ℕ, zero, suc, ◌+◌, ◌-◌, ◌<◌, ◌≤◌, Bool, true, false, List, [], ◌∷◌, length, map, drop, get_or, refl, sym, ◌∙◌, ap, subst, arith, drop-cons, Some}
+use Rattle.std.proofs.Common.{◌≡◌, ℕ, zero, suc, ◌+◌, ◌-◌, ◌<◌, ◌≤◌, List, [], ◌∷◌, length, map, drop, get_or, refl, sym, ◌∙◌, ap, subst, arith, drop-cons, Some}
 use Rattle.std.specs.Prelude.{Result, Ok, Err, IsErr, slice_get}
 use Rattle.std.specs.Option.{option_map}
 use Rattle.std.proofs.lemmas.Option.{slice_get-map, slice_get-get_or, slice_get_read, get_or_from_slice_get, slice_get_within}
@@ -62,7 +62,7 @@ pub record HeldItem (s : Standing) (frame : List Val) (n : ℕ) (cells : List Ce
   pub within : n < length frame
   pub holds : HoldsCell s (get_or frame n (v.Int (pos 0))) cell
 
-pub held-item : (s t : Standing) (frame : List Val) (numbers : List ℕ) (cells : List CellTree) (i : ℕ) → Keeps s t → AreHeld s frame numbers cells → i < length numbers → HeldItem t frame (get_or numbers i 0) cells i
+held-item : (s t : Standing) (frame : List Val) (numbers : List ℕ) (cells : List CellTree) (i : ℕ) → Keeps s t → AreHeld s frame numbers cells → i < length numbers → HeldItem t frame (get_or numbers i 0) cells i
 held-item s t frame numbers cells i k h less =
     let inside : i < length cells = omega (arith, h.count) in
     let at = slice_get-get_or cells i nil inside in
@@ -80,7 +80,7 @@ pub record HeldList (s : Standing) (frame : List Val) (numbers : List ℕ) (rows
   pub at : slice_get (map list_cell rows) i ≡ Some (list_cell cells)
   pub held : AreHeld s frame numbers cells
 
-pub held-list : (s t : Standing) (frame : List Val) (lists : List (List ℕ)) (rows : List (List CellTree)) (i : ℕ) (list read : List ℕ) → Keeps s t → AreHeldEach s frame lists rows →
+held-list : (s t : Standing) (frame : List Val) (lists : List (List ℕ)) (rows : List (List CellTree)) (i : ℕ) (list read : List ℕ) → Keeps s t → AreHeldEach s frame lists rows →
     i < length lists → list ≡ get_or lists i list → read ≡ list → HeldList t frame read rows i
 held-list s t frame lists rows i list read k h less is same =
     let inside : i < length rows = omega (arith, h.count) in
@@ -122,6 +122,18 @@ pub record IsMade (o s : Standing) (list : ℕ) (cells : List CellTree) (n done 
   pub all : n ≡ length cells
   pub adds : Adds o s (parts (list_cell cells))
   pub tells : Tells s list (list_cell (drop (n - done) cells))
+
+-- what stands at the number of the next item
+pub next-held : (o s : Standing) (frame : List Val) (numbers : List ℕ) (cells : List CellTree) (list done : ℕ) → IsMade o s list cells (length numbers) done → AreHeld o frame numbers cells → done < length numbers →
+    HeldItem s frame (get_or numbers (length numbers - 1 - done) 0) cells (length numbers - 1 - done)
+next-held o s frame numbers cells list done made held h =
+    held-item o s frame numbers cells (length numbers - 1 - done) made.adds.gains.lasts.known held (omega (arith, h))
+
+-- what stands at the next list of numbers
+pub next-list : (o s : Standing) (frame : List Val) (lists : List (List ℕ)) (rows : List (List CellTree)) (list done : ℕ) (numbers read : List ℕ) → IsMade o s list (map list_cell rows) (length lists) done →
+    AreHeldEach o frame lists rows → done < length lists → numbers ≡ get_or lists (length lists - 1 - done) numbers → read ≡ numbers → HeldList s frame read rows (length lists - 1 - done)
+next-list o s frame lists rows list done numbers read made held h is same =
+    held-list o s frame lists rows (length lists - 1 - done) numbers read made.adds.gains.lasts.known held (omega (arith, h)) is same
 
 pub made-none : (o : Standing) (list : ℕ) (cells : List CellTree) (n : ℕ) → n ≡ length cells → Tells o list nil → IsMade o o list cells n 0
 made-none o list cells n all tells = record {

@@ -1,15 +1,12 @@
 -- A tree's production and its kind, by its cell.
-use Rattle.std.proofs.Common.{◌≡◌, ℕ, ◌+◌, ◌-◌, ◌<◌, ◌≤◌, ℤ, Bool, true, false, List, refl, sym, ◌∙◌, ap, subst, arith, Option, Some, None, slice_get}
-use Rattle.std.specs.Prelude.{nat_eq}
-use Rattle.std.specs.Option.{option_map_or}
+use Rattle.std.proofs.Common.{◌≡◌, ℕ, ◌+◌, ◌-◌, ◌<◌, ◌≤◌, Bool, true, false, List, refl, sym, ◌∙◌, ap, subst, arith, Some, None}
 use Rattle.std.proofs.lemmas.Option.{none-some}
-use Rattle.lrc_base.specs.declared.grammar.Kind.{Kind}
 use Rattle.lrc_base.specs.declared.grammar.Kind.TheVariants as k
 use Rattle.lrc_base.specs.declared.grammar.Production.{Production}
-use Rattle.lrc_meaning.specs.Tree.{Tree, Trees, int, bool, name, node, is_left}
+use Rattle.lrc_meaning.specs.Tree.{Tree, int, bool, name, node, is_left}
 use Rattle.lrc_visit_meaning.specs.Visits.{is_of_kind}
 use Rattle.lrc_laws.proofs.PartLemmas.{node_of_kind}
-use Rattle.lrc_store.specs.Cells.{CellTree, nil, number, pair}
+use Rattle.lrc_store.specs.Cells.{CellTree, pair}
 use Rattle.lrc_code.specs.Forms.{tree_cell}
 use Rattle.lrc_store.specs.Standing.{Standing, Stands, IsKnown, meant}
 use Rattle.lrc_store.specs.declared.cells.Handle.{Handle}

@@ -1,5 +1,5 @@
 -- What the items of a run show: the cells that stand for what they hold, one by one and in lists, and that these are spelled.
-use Rattle.std.proofs.Common.{◌≡◌, ℕ, zero, suc, ◌+◌, List, [], ◌∷◌, map, length, Contains, Some, slice_get, refl, sym, ap, ◌∙◌, subst}
+use Rattle.std.proofs.Common.{◌≡◌, ℕ, ◌+◌, List, [], ◌∷◌, map, Contains, slice_get, refl, sym, ap, ◌∙◌, subst}
 use Rattle.std.specs.List.{AllByRecursion}
 use Rattle.std.proofs.lemmas.Option.{same_Some}
 use Rattle.std.proofs.lemmas.List.{length-map}
@@ -7,10 +7,10 @@ use Rattle.lrc_base.specs.declared.grammar.Production.{Production}
 use Rattle.lrc_meaning.specs.Tree.{Tree}
 use Rattle.lrc_meaning.specs.Grammar.{Grammar}
 use Rattle.lrc_order_meaning.specs.declared.Partition.{Partition}
-use Rattle.lrc_order_meaning.proofs.MemberLemmas.{member_first, member_later, member_map, member_slice}
+use Rattle.lrc_order_meaning.proofs.MemberLemmas.{member_first, member_later, member_slice}
 use Rattle.lrc_plan_meaning.specs.declared.Bound.{Bound}
 use Rattle.lrc_plan_meaning.specs.declared.Bound.TheVariants as b
-use Rattle.lrc_visit_meaning.specs.Values.{Datum, value, binding, Data, data_row, value_in, binding_in}
+use Rattle.lrc_visit_meaning.specs.Values.{Datum, Data, data_row, value_in, binding_in}
 use Rattle.lrc_visit_meaning.specs.Visits.{Held, values_at}
 use Rattle.lrc_store.specs.Cells.{CellTree}
 use Rattle.lrc_store.specs.Standing.{Standing}

@@ -1,11 +1,9 @@
 -- The tree of a symbol stands where the symbol's origin says.
-use Rattle.std.proofs.Common.{◌≡◌, ℕ, zero, suc, ◌+◌, ◌<◌, Bool, true, false, ◌&&◌, cond, IsTrue, List, [], ◌∷◌, ◌++◌, map, length, Contains, Option, Some, None, slice_get, refl, sym, ap, ◌∙◌, subst, arith, append_assoc}
+use Rattle.std.proofs.Common.{◌≡◌, ℕ, zero, suc, ◌+◌, ◌<◌, Bool, true, false, cond, IsTrue, List, [], ◌∷◌, ◌++◌, length, Contains, Option, Some, None, slice_get, refl, sym, ap, ◌∙◌, subst, arith, append_assoc}
 use Rattle.std.specs.Prelude.{slice_index_or}
 use Rattle.std.specs.Option.{option_map_or}
-use Rattle.std.specs.List.{range_with_len}
 use Rattle.std.proofs.lemmas.Bool.{and_parts, false≢true}
 use Rattle.std.proofs.lemmas.Option.{none-some, same_Some, slice_get-get_or}
-use Rattle.std.proofs.lemmas.List.Elements.{All-contains, Contains-append_left}
 use Rattle.lrc_base.specs.declared.grammar.Kind.{Kind}
 use Rattle.lrc_base.specs.declared.grammar.Kind.TheVariants as k
 use Rattle.lrc_base.specs.declared.grammar.Kid.{Kid}
@@ -17,7 +15,7 @@ use Rattle.lrc_base.specs.declared.signature.Origin.TheVariants as origin
 use Rattle.lrc_base.specs.declared.signature.Symbol.{Symbol}
 use Rattle.lrc_meaning.specs.Tree.{Tree, Trees, none, more, node, in_order, is_sort}
 use Rattle.lrc_meaning.specs.Grammar.{Grammar}
-use Rattle.lrc_meaning.specs.Signature.{kid_attributes, extra_attributes, signed_symbol, signed_kids, signed_extras, signed_symbols, signature_of}
+use Rattle.lrc_meaning.specs.Signature.{kid_attributes, extra_attributes, signed_symbol, signed_kids, signed_extras, signed_symbols}
 use Rattle.lrc_order_meaning.specs.declared.Place.{Place}
 use Rattle.lrc_order_meaning.specs.declared.Partition.{Partition}
 use Rattle.lrc_order_meaning.specs.Needs.{left_place, symbols_of}
@@ -29,18 +27,17 @@ use Rattle.lrc_plan_meaning.specs.declared.Bound.{Bound}
 use Rattle.lrc_plan_meaning.specs.declared.Bound.TheVariants as b
 use Rattle.lrc_plan_meaning.specs.Items.{tree_of, symbol_at}
 use Rattle.lrc_visit_meaning.specs.Values.{value_in, no_tree}
-use Rattle.lrc_visit_meaning.specs.Visits.{Held, is_of_kind, are_of_kinds, symbol_trees, tree_at}
+use Rattle.lrc_visit_meaning.specs.Visits.{is_of_kind, are_of_kinds, symbol_trees, tree_at}
 use Rattle.lrc_laws.proofs.OccurrenceLemmas.{of_mapped}
-use Rattle.lrc_store.specs.Standing.{Standing, meant}
+use Rattle.lrc_store.specs.Standing.{Standing}
 use Rattle.lrc_store.proofs.Known.{stands-meant}
 use Rattle.lrc_code.specs.Forms.{tree_cell, kid_cells, EachNameBelow}
-use Rattle.lrc_code.specs.Reading.{HasKid}
 use Rattle.lrc_call_meaning.specs.Spelled.{IsSpelledName, IsSpelled}
 use Rattle.lrc_eval.specs.declared.values.Val.{Val}
 use Rattle.lrc_eval.proofs.CellLemmas.{kid-cell}
 use Rattle.lrc_functions.specs.Functions.{origin_of}
 use Rattle.lrc_frames.specs.declared.body.Body.{Body}
-use Rattle.lrc_frames.specs.Frames.{Run, RunsAt, ShowsAt}
+use Rattle.lrc_frames.specs.Frames.{Run, RunsAt}
 use Rattle.lrc_frames.specs.Writing.{StandsAt}
 
 -- ---- the children

@@ -67,7 +67,7 @@ node_production (bool b) = None
 node_production (name n) = None
 node_production (node p kids) = Some p
 
--- a handle of the tree, where it is no leaf of a number or a truth value
+-- a handle of the tree, or none of a leaf
 abbrev pub FindsTree : Standing → Tree → Option Handle → Type 0
 FindsTree s t answer = MatchOption answer (node_production t ≡ None) (λ handle. Stands s handle.0 (tree_cell t))
 

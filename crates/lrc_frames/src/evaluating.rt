@@ -10,8 +10,8 @@ use lrc_functions::Functions;
 use lrc_store::{Full, Store};
 
 /// Evaluates an occurrence of the body's production by the equation of this number, and puts its value
-/// into the frame; whether it has one. None has where there is no equation, or where an operator or a
-/// condition meets a value of another kind; the frame is unchanged then.
+/// into the frame; whether it has one. It has none where there is no equation, or where an operator or a
+/// condition meets a value of another kind.
 ///
 /// # Errors
 ///

@@ -22,13 +22,7 @@ fn node_production<St: Store>(store: &mut St, tree: Handle) -> Option<u32>
     ensures same_meaning { St.meaning store.new ≡ St.meaning store.old }
 {
     match store.look(tree) {
-        Cell::Pair(tag, _, _) => {
-            if tag >= NODE {
-                Some(tag - NODE)
-            } else {
-                None
-            }
-        }
+        Cell::Pair(tag, _, _) => { if tag >= NODE { Some(tag - NODE) } else { None } }
         Cell::Nil | Cell::Number(_) => None,
     }
 }

@@ -1,7 +1,4 @@
-use Rattle.std.proofs.Common.{◌≡◌, ◌∙◌, ◌*◌, ◌<◌, ◌≤◌, length, ap, sym, subst, rules, arith}
-use Rattle.std.specs.Prelude.{Ok, None, Some, Option, Result}
-use Rattle.lrc_base.specs.declared.grammar.Production.{Production}
-use Rattle.lrc_base.specs.declared.limits.TheConstants.{PRODUCTION_LIMIT}
+use Rattle.std.proofs.Common.{◌<◌, ◌≤◌, length, rules, arith}
 use Rattle.lrc_grammar.specs.Grammar.{grammar_of}
 use Rattle.lrc_meaning.specs.Expression.{expression}
 use Rattle.lrc_eval.proofs.FormLemmas.{evaluates-at}
@@ -46,8 +43,8 @@ evaluate-requires g c =
       given = (
         inputs gr c.args.body c.requires.0,
         equation-given gr c.args.functions.now.plan.parts.sorts c.args.functions.now.plan.grammar.ok few (g.St.Store.state c.args.store.now) c.args.frame.now c.args.body c.args.occurrence c.args.equation c.requires.0 c.requires.1
-        c.in-Some.number c.in-Some.is c.as_slice.result.now c.index-as_slice-body.result c.as_slice-2.result.now c.as_slice.ensures c.index-as_slice-body.is c.as_slice-2.ensures
-        c.index-as_slice-number.result c.index-as_slice-number.is,
+            c.in-Some.number c.in-Some.is c.as_slice.result.now c.index-as_slice-body.result c.as_slice-2.result.now c.as_slice.ensures c.index-as_slice-body.is c.as_slice-2.ensures
+            c.index-as_slice-number.result c.index-as_slice-number.is,
       );
     }
 
