@@ -1,6 +1,6 @@
 -- Lists of cells that are made from the last item to the first, and the cells that values hold.
 use lib.IntN.{pos}
-use Rattle.std.proofs.Common.{◌≡◌, ℕ, zero, suc, ◌+◌, ◌-◌, ◌<◌, ◌≤◌, List, [], ◌∷◌, length, map, drop, get_or, refl, sym, ◌∙◌, ap, subst, arith, drop-cons, Some}
+use Rattle.std.proofs.Common.{◌≡◌, ℕ, zero, suc, ◌+◌, ◌-◌, ◌<◌, List, [], ◌∷◌, length, map, drop, get_or, refl, sym, ◌∙◌, ap, subst, arith, drop-cons, Some}
 use Rattle.std.specs.Prelude.{Result, Ok, Err, IsErr, slice_get}
 use Rattle.std.specs.Option.{option_map}
 use Rattle.std.proofs.lemmas.Option.{slice_get-map, slice_get-get_or, slice_get_read, get_or_from_slice_get, slice_get_within}
@@ -111,12 +111,6 @@ next-item cells n done c all h e =
     ∙ ap (λ x. more_cell x (list_cell (drop (suc (n - 1 - done)) cells))) (get_or_from_slice_get cells (n - 1 - done) c c e)
     ∙ ap (λ k. more_cell c (list_cell (drop k cells))) behind
 
-dropped : (n : ℕ) (cells : List CellTree) → length cells ≤ n → drop n cells ≡ []
-dropped zero [] h = refl
-dropped zero (c ∷ cells) h = absurd (omega arith)
-dropped (suc n) [] h = refl
-dropped (suc n) (c ∷ cells) h = dropped n cells (omega arith)
-
 -- So many of a list's n items were put, the last ones: the handle stands for the list of them.
 pub record IsMade (o s : Standing) (list : ℕ) (cells : List CellTree) (n done : ℕ) : Type 0 where
   pub all : n ≡ length cells
@@ -134,18 +128,6 @@ pub next-list : (o s : Standing) (frame : List Val) (lists : List (List ℕ)) (r
     AreHeldEach o frame lists rows → done < length lists → numbers ≡ get_or lists (length lists - 1 - done) numbers → read ≡ numbers → HeldList s frame read rows (length lists - 1 - done)
 next-list o s frame lists rows list done numbers read made held h is same =
     held-list o s frame lists rows (length lists - 1 - done) numbers read made.adds.gains.lasts.known held (omega (arith, h)) is same
-
-pub made-none : (o : Standing) (list : ℕ) (cells : List CellTree) (n : ℕ) → n ≡ length cells → Tells o list nil → IsMade o o list cells n 0
-made-none o list cells n all tells = record {
-  all = all;
-  adds = adds-same o (parts (list_cell cells));
-  tells = tells-as o list nil (list_cell (drop (n - 0) cells)) (ap list_cell (sym (dropped (n - 0) cells (omega arith)))) tells;
-}
-
-pub made-all : (o s : Standing) (list : Handle) (cells : List CellTree) (n done : ℕ) → n ≤ done → IsMade o s list.0 cells n done → Builds o s (list_cell cells) (Ok list)
-made-all o s list cells n done h m =
-    let start : n - done ≡ 0 = omega arith in
-    record { adds = m.adds; ok = tells-as s list.0 (list_cell (drop (n - done) cells)) (list_cell cells) (ap (λ k. list_cell (drop k cells)) start) m.tells; full = tt }
 
 -- the next item, of this cell
 module _ (o s t : Standing) (list : Handle) (cells : List CellTree) (n done : ℕ) (c : CellTree) (made : IsMade o s list.0 cells n done) (h : done < n) (at : slice_get cells (n - 1 - done) ≡ Some c) where
