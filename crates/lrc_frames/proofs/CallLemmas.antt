@@ -39,7 +39,7 @@ use Rattle.lrc_frames.specs.declared.body.Body.{Body}
 use Rattle.lrc_frames.specs.Frames.{Run}
 use Rattle.lrc_frames.specs.Steps.{is_callable, call_cells, Calls}
 use Rattle.lrc_frames.specs.Writing.{AreHeld, FindsNode, CanCall}
-use Rattle.lrc_frames.proofs.ItemLemmas.{held-lasts, one-stopped, other-stopped, both-built}
+use Rattle.lrc_frames.proofs.MadeLemmas.{held-lasts, one-stopped, other-stopped, both-built}
 use Rattle.lrc_frames.proofs.ShownLemmas.{IsShown, values-held, values-spelled, bounds-held, bounds-spelled}
 use Rattle.lrc_frames.proofs.SymbolLemmas.{TreeThere, tree-there}
 

@@ -27,7 +27,7 @@ use Rattle.lrc_functions.specs.declared.function.Function.{Function}
 use Rattle.lrc_frames.specs.Frames.{Run, ShowsAt}
 use Rattle.lrc_frames.specs.Steps.{IsProper}
 use Rattle.lrc_frames.specs.Writing.{AreHeld, AreHeldEach, CanEnd, Ends}
-use Rattle.lrc_frames.proofs.ItemLemmas.{each-lasts, one-stopped, other-stopped, both-built}
+use Rattle.lrc_frames.proofs.MadeLemmas.{each-lasts, one-stopped, other-stopped, both-built}
 use Rattle.lrc_frames.proofs.ShownLemmas.{IsShown, row_cells, values-held, values-spelled, rows-held, rows-cells, rows-spelled}
 
 -- what holds in any case holds where a call succeeds

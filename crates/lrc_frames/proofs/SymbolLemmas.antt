@@ -1,4 +1,4 @@
--- The tree of a symbol stands where the symbol's origin says.
+-- The tree of a symbol stands where the symbol's origin says, and is found there.
 use Rattle.std.proofs.Common.{◌≡◌, ℕ, zero, suc, ◌+◌, ◌<◌, Bool, true, false, cond, IsTrue, List, [], ◌∷◌, ◌++◌, length, Contains, Option, Some, None, slice_get, refl, sym, ap, ◌∙◌, subst, arith, append_assoc}
 use Rattle.std.specs.Prelude.{slice_index_or}
 use Rattle.std.specs.Option.{option_map_or}
@@ -13,7 +13,7 @@ use Rattle.lrc_base.specs.declared.grammar.Production.{Production}
 use Rattle.lrc_base.specs.declared.signature.Origin.{Origin}
 use Rattle.lrc_base.specs.declared.signature.Origin.TheVariants as origin
 use Rattle.lrc_base.specs.declared.signature.Symbol.{Symbol}
-use Rattle.lrc_meaning.specs.Tree.{Tree, Trees, none, more, node, in_order, is_sort}
+use Rattle.lrc_meaning.specs.Tree.{Tree, Trees, int, bool, name, node, none, more, in_order, is_sort}
 use Rattle.lrc_meaning.specs.Grammar.{Grammar}
 use Rattle.lrc_meaning.specs.Signature.{kid_attributes, extra_attributes, signed_symbol, signed_kids, signed_extras, signed_symbols}
 use Rattle.lrc_order_meaning.specs.declared.Place.{Place}
@@ -29,16 +29,39 @@ use Rattle.lrc_plan_meaning.specs.Items.{tree_of, symbol_at}
 use Rattle.lrc_visit_meaning.specs.Values.{value_in, no_tree}
 use Rattle.lrc_visit_meaning.specs.Visits.{is_of_kind, are_of_kinds, symbol_trees, tree_at}
 use Rattle.lrc_laws.proofs.OccurrenceLemmas.{of_mapped}
-use Rattle.lrc_store.specs.Standing.{Standing}
-use Rattle.lrc_store.proofs.Known.{stands-meant}
+use Rattle.lrc_store.specs.Standing.{Standing, Stands, IsKnown, meant}
+use Rattle.lrc_store.specs.declared.cells.Handle.{Handle}
+use Rattle.lrc_store.proofs.Known.{known-stands, stands-meant}
 use Rattle.lrc_code.specs.Forms.{tree_cell, kid_cells, EachNameBelow}
 use Rattle.lrc_call_meaning.specs.Spelled.{IsSpelledName, IsSpelled}
 use Rattle.lrc_eval.specs.declared.values.Val.{Val}
-use Rattle.lrc_eval.proofs.CellLemmas.{kid-cell}
+use Rattle.lrc_eval.specs.declared.values.Val.TheVariants as v
+use Rattle.lrc_eval.specs.Values.{Means, is_name_or_node}
+use Rattle.lrc_eval.proofs.CellLemmas.{one-kid, kid-cell}
 use Rattle.lrc_functions.specs.Functions.{origin_of}
 use Rattle.lrc_frames.specs.declared.body.Body.{Body}
 use Rattle.lrc_frames.specs.Frames.{Run, RunsAt}
 use Rattle.lrc_frames.specs.Writing.{StandsAt}
+
+-- ---- handles of trees
+
+-- a value that is no handle means a number or a truth value
+pub no-handle : (s : Standing) (value : Val) (t : Tree) → ((handle : Handle) → value ≡ v.Ref handle → ⊥) → Means s value t → is_name_or_node t ≡ false
+no-handle s (v.Int n) t none m = ap is_name_or_node m
+no-handle s (v.Bool c) t none m = ap is_name_or_node m
+no-handle s (v.Ref handle) t none m = absurd (none handle refl)
+no-handle s v.Unset t none m = absurd m
+
+-- and such a tree is of no sort
+pub of-no-sort : (prods : List Production) (t : Tree) (sort : ℕ) → is_name_or_node t ≡ false → is_of_kind prods t (k.Sort sort) ≡ false
+of-no-sort prods (int i) sort e = refl
+of-no-sort prods (bool c) sort e = refl
+of-no-sort prods (name n) sort e = absurd (false≢true (sym e))
+of-no-sort prods (node p kids) sort e = absurd (false≢true (sym e))
+
+-- a child's handle stands for it
+pub kid-stands : (s u : Standing) (parent kid i : ℕ) (t : Tree) → HasKid (meant s parent) i (tree_cell t) → IsKnown u kid → HasKid (meant s parent) i (meant u kid) → Stands u kid (tree_cell t)
+kid-stands s u parent kid i t own known found = subst (Stands u kid) (one-kid (meant s parent) i (meant u kid) (tree_cell t) found own) (known-stands u kid known)
 
 -- ---- the children
 

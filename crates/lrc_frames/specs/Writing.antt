@@ -1,8 +1,8 @@
 -- What the steps that write to the store ask of a visit that runs, and which cells the values of a frame hold.
-use Rattle.std.specs.Prelude.{◌≡◌, ℕ, suc, ◌<◌, true, false, List, length, Option, Some, None, All, Contains, slice_get, MatchOption, Result, IfOk}
+use Rattle.std.specs.Prelude.{◌≡◌, ℕ, suc, ◌<◌, true, false, List, length, Option, Some, All, Contains, slice_get, MatchOption, Result, IfOk}
 use Rattle.lrc_base.specs.declared.grammar.Kind.TheVariants as k
 use Rattle.lrc_base.specs.declared.grammar.Production.{Production}
-use Rattle.lrc_meaning.specs.Tree.{Tree, int, bool, name, node}
+use Rattle.lrc_meaning.specs.Tree.{Tree}
 use Rattle.lrc_meaning.specs.Grammar.{Grammar, occurrences_of}
 use Rattle.lrc_order_meaning.specs.declared.Partition.{Partition}
 use Rattle.lrc_base.specs.declared.signature.Origin.{Origin}
@@ -23,7 +23,7 @@ use Rattle.lrc_call_meaning.specs.Forms.{result_form}
 use Rattle.lrc_call_meaning.specs.Spelled.{IsSpelledResult}
 use Rattle.lrc_eval.specs.declared.values.Val.{Val}
 use Rattle.lrc_eval.specs.declared.values.Val.TheVariants as v
-use Rattle.lrc_eval.specs.Values.{Means}
+use Rattle.lrc_eval.specs.Values.{Means, is_name_or_node}
 use Rattle.lrc_functions.specs.declared.function.Callee.{Callee}
 use Rattle.lrc_functions.specs.declared.function.Function.{Function}
 use Rattle.lrc_functions.specs.declared.function.Operation.TheVariants as op
@@ -60,16 +60,9 @@ abbrev pub StandsAt : Standing → List Val → Body → Origin → Tree → Typ
 StandsAt s frame body (origin.Child i) t = HasKid (meant s body.tree.0) i (tree_cell t)
 StandsAt s frame body (origin.Value o) t = (value : Val) × (slice_get frame o ≡ Some value) × Means s value t
 
--- the number of a node's production; none of a leaf
-abbrev pub node_production : Tree → Option ℕ
-node_production (int i) = None
-node_production (bool b) = None
-node_production (name n) = None
-node_production (node p kids) = Some p
-
--- a handle of the tree, or none of a leaf
+-- a handle of the tree; none where it is a number or a truth value
 abbrev pub FindsTree : Standing → Tree → Option Handle → Type 0
-FindsTree s t answer = MatchOption answer (node_production t ≡ None) (λ handle. Stands s handle.0 (tree_cell t))
+FindsTree s t answer = MatchOption answer (is_name_or_node t ≡ false) (λ handle. Stands s handle.0 (tree_cell t))
 
 -- a handle of the tree, just where it is a node of this sort
 abbrev pub FindsNode : List Production → Standing → ℕ → Tree → Option Handle → Type 0

@@ -10,8 +10,8 @@ ghost use Rattle.lrc_frames.specs.Writing.{StandsAt, FindsTree, FindsNode, CanCa
 
 use crate::body::Body;
 use crate::items::put_items;
-use crate::nodes::is_node_of;
-use lrc_base::{Origin, Production};
+use crate::nodes::is_of_kind;
+use lrc_base::{Kind, Origin, Production};
 use lrc_code::{kid_of, put_call};
 use lrc_eval::Val;
 use lrc_functions::{Callee, Functions};
@@ -61,7 +61,7 @@ fn symbol_tree<St: Store>(
     ensures same_meaning { St.meaning store.new ≡ St.meaning store.old }
 {
     let tree = origin_tree(store, frame, body, callee.tree)?;
-    if is_node_of(store, prods, tree, callee.sort) {
+    if is_of_kind(store, prods, tree, Kind::Sort(callee.sort)) {
         Some(tree)
     } else {
         None

@@ -10,7 +10,6 @@ mod calling;
 mod ending;
 mod evaluating;
 mod items;
-mod nodes;
 
 pub use body::Body;
 pub use calling::make_call;

@@ -1,4 +1,4 @@
-use Rattle.lrc_frames.proofs.NodeLemmas.{no-handle}
+use Rattle.lrc_frames.proofs.SymbolLemmas.{no-handle}
 use Rattle.lrc_frames.proofs.calling.handle_in.Goals as goal
 
 pub returns-in_default : goal.returns-in_default

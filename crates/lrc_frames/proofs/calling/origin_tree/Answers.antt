@@ -6,7 +6,7 @@ use Rattle.lrc_eval.specs.declared.values.Val.{Val}
 use Rattle.lrc_eval.specs.declared.values.Val.TheVariants as v
 use Rattle.lrc_eval.specs.Values.{Means}
 use Rattle.lrc_frames.specs.Writing.{StandsAt}
-use Rattle.lrc_frames.proofs.NodeLemmas.{kid-stands}
+use Rattle.lrc_frames.proofs.SymbolLemmas.{kid-stands}
 use Rattle.lrc_frames.proofs.calling.origin_tree.Goals as goal
 
 pub returns-in-Child-clause-finds : goal.returns-in-Child-clause-finds

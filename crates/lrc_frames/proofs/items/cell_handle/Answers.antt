@@ -1,6 +1,6 @@
 use Rattle.lrc_code.specs.Forms.{tree_cell}
 use Rattle.lrc_code.proofs.Growing.{builds-as}
-use Rattle.lrc_frames.proofs.ItemLemmas.{handle-builds, leaf-held}
+use Rattle.lrc_frames.proofs.MadeLemmas.{handle-builds, leaf-held}
 use Rattle.lrc_frames.proofs.items.cell_handle.Goals as goal
 
 pub returns-in-Ref-clause-builds : goal.returns-in-Ref-clause-builds

@@ -1,7 +1,7 @@
 use Rattle.std.proofs.Common.{◌∙◌, length, map}
 use Rattle.lrc_store.proofs.Known.{stands-known}
 use Rattle.lrc_code.specs.Forms.{list_cell}
-use Rattle.lrc_frames.proofs.ItemLemmas.{next-list, item-stopped, list-stopped, list-more}
+use Rattle.lrc_frames.proofs.MadeLemmas.{next-list, item-stopped, list-stopped, list-more}
 use Rattle.lrc_frames.proofs.items.put_bindings.Goals as goal
 
 pub put_items-requires : goal.put_items-requires

@@ -2,7 +2,7 @@ use Rattle.std.proofs.Common.{◌≡◌, List, length, map}
 use Rattle.lrc_store.specs.Cells.{CellTree}
 use Rattle.lrc_code.specs.Forms.{list_cell}
 use Rattle.lrc_frames.specs.Writing.{AreHeldEach}
-use Rattle.lrc_frames.proofs.ItemLemmas.{IsMade}
+use Rattle.lrc_frames.proofs.MadeLemmas.{IsMade}
 use Rattle.lrc_frames.proofs.items.put_bindings.Given as goal
 
 -- the last bindings were put

@@ -1,6 +1,6 @@
 use Rattle.std.proofs.Common.{◌∙◌, length}
 use Rattle.lrc_store.proofs.Known.{stands-known}
-use Rattle.lrc_frames.proofs.ItemLemmas.{next-held, item-stopped, list-stopped, list-more}
+use Rattle.lrc_frames.proofs.MadeLemmas.{next-held, item-stopped, list-stopped, list-more}
 use Rattle.lrc_frames.proofs.items.put_items.Goals as goal
 
 pub bounds-frame-number : goal.bounds-frame-number

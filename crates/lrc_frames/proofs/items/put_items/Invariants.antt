@@ -1,7 +1,7 @@
 use Rattle.std.proofs.Common.{◌≡◌, List, length}
 use Rattle.lrc_store.specs.Cells.{CellTree}
 use Rattle.lrc_frames.specs.Writing.{AreHeld}
-use Rattle.lrc_frames.proofs.ItemLemmas.{IsMade}
+use Rattle.lrc_frames.proofs.MadeLemmas.{IsMade}
 use Rattle.lrc_frames.proofs.items.put_items.Given as goal
 
 -- the last items were put
