@@ -6,5 +6,8 @@
 #![tactic(auto)]
 
 mod body;
+mod filling;
+mod lists;
+mod reading;
 
 pub use body::Body;
