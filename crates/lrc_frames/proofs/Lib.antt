@@ -1,3 +1,5 @@
 pub mod FrameLemmas
 pub mod ReadLemmas
 pub mod FillLemmas
+pub mod ItemLemmas
+pub mod TakeLemmas

@@ -9,5 +9,7 @@ mod body;
 mod filling;
 mod lists;
 mod reading;
+mod taking;
 
 pub use body::Body;
+pub use taking::take_result;
