@@ -3,3 +3,5 @@ pub mod ReadLemmas
 pub mod FillLemmas
 pub mod ItemLemmas
 pub mod TakeLemmas
+pub mod NodeLemmas
+pub mod EachLemmas

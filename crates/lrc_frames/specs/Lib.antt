@@ -1,4 +1,5 @@
 pub mod Frames
 pub mod Lists
+pub mod Nodes
 pub mod Steps
 pub mod Taking

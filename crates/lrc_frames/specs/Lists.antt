@@ -7,12 +7,13 @@ use Rattle.lrc_order_meaning.specs.declared.Partition.{Partition}
 use Rattle.lrc_plan_meaning.specs.declared.Bound.{Bound}
 use Rattle.lrc_plan_meaning.specs.declared.Bound.TheVariants as b
 use Rattle.lrc_plan_meaning.specs.Bindings.{items_of}
-use Rattle.lrc_visit_meaning.specs.Values.{Datum, value, binding, Data}
+use Rattle.lrc_visit_meaning.specs.Values.{Datum, value, binding, Data, data_list}
+use Rattle.lrc_visit_meaning.specs.Visits.{are_of_lengths}
 use Rattle.lrc_store.specs.Cells.{CellTree}
 use Rattle.lrc_store.specs.Standing.{Standing, Stands}
 use Rattle.lrc_code.specs.Forms.{list_cell}
-use Rattle.lrc_call_meaning.specs.Forms.{datum_cell}
-use Rattle.lrc_call_meaning.specs.Spelled.{IsSpelledDatum}
+use Rattle.lrc_call_meaning.specs.Forms.{datum_cell, bindings_cell}
+use Rattle.lrc_call_meaning.specs.Spelled.{IsSpelledDatum, AreSpelledData}
 use Rattle.lrc_eval.specs.declared.values.Val.{Val}
 use Rattle.lrc_functions.specs.Numbers.{number}
 use Rattle.lrc_frames.specs.declared.body.Body.{Body}
@@ -66,3 +67,19 @@ module _ (g : Grammar) (parts : List Partition) where
   abbrev pub FilledIf : Standing → List Val → Body → Run → List Bound → List Datum → Bool → Type 0
   FilledIf s frame body r items given false = ¬ (length given ≡ length items)
   FilledIf s frame body r items given true = (length given ≡ length items) × RunsAt g parts s frame body (gaining r items given)
+
+  -- Bindings in a list, one for each visit, with the items that each has; their data are to be put into a frame.
+  pub record FillsEach (s : Standing) (frame : List Val) (body : Body) (r : Run) (lists : List (List ℕ)) (handle : ℕ) (reading : Reading) (items : ℕ → List Bound) (visits : List ℕ) (rows : List Data) : Type 0 where
+    pub runs : RunsAt g parts s frame body r
+    pub numbered : lists ≡ map (λ u. map (number g.sorts parts r.production) (items u)) visits
+    pub listed : (u : ℕ) (x : Bound) → Contains (items u) x → Contains (items_of g.sorts parts r.production) x
+    pub list : Stands s handle (bindings_cell rows)
+    pub spelled : AllByRecursion AreSpelledData rows
+    pub read : (u : ℕ) (x : Bound) (d : Datum) → Contains (items u) x → IsReadAs reading (number g.sorts parts r.production x) x d
+
+  -- the run has the items, where there are as many bindings as visits, and as many data in each as items
+  abbrev pub FilledEachIf : Standing → List Val → Body → Run → (ℕ → List Bound) → List ℕ → List Data → Bool → Type 0
+  FilledEachIf s frame body r items visits rows false = are_of_lengths rows (map (λ u. length (items u)) visits) ≡ false
+  FilledEachIf s frame body r items visits rows true =
+      (are_of_lengths rows (map (λ u. length (items u)) visits) ≡ true)
+      × RunsAt g parts s frame body (gaining r (flat_map items visits) (flat_map data_list rows))

@@ -8,6 +8,7 @@
 mod body;
 mod filling;
 mod lists;
+mod nodes;
 mod reading;
 mod taking;
 

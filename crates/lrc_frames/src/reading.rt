@@ -24,7 +24,7 @@ pub(crate) enum Reading {
     Bindings,
     /// Each goes to an occurrence where its number is below this one, and else to a binding; it may be
     /// of the other sort.
-    Either(u32),
+    Either(usize),
 }
 
 /// Whether an item of a binding is a binding itself, and no value, by one look at it.
@@ -86,7 +86,7 @@ pub(crate) fn read<St: Store>(
         Reading::Values => value_of_handle(store, item),
         Reading::Bindings => Val::Ref(item),
         Reading::Either(occurrences) => {
-            if number < occurrences {
+            if (number as usize) < occurrences {
                 value_in(store, item)
             } else {
                 binding_in(store, item)
