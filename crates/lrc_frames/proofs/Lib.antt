@@ -1,9 +1,14 @@
 pub mod FrameLemmas
+pub mod ReadLemmas
+pub mod FillLemmas
 pub mod ItemLemmas
+pub mod TakeLemmas
+pub mod NodeLemmas
+pub mod EachLemmas
+pub mod MadeLemmas
 pub mod ShownLemmas
 pub mod EndLemmas
 pub mod EquationLemmas
 pub mod EvaluateLemmas
-pub mod NodeLemmas
 pub mod SymbolLemmas
 pub mod CallLemmas

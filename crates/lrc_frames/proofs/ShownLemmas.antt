@@ -24,6 +24,7 @@ use Rattle.lrc_eval.specs.Values.{Means}
 use Rattle.lrc_functions.specs.Numbers.{number}
 use Rattle.lrc_frames.specs.Frames.{MeansBinding, Shows, ShowsAt}
 use Rattle.lrc_frames.specs.Steps.{IsProper}
+use Rattle.lrc_frames.proofs.ItemLemmas.{map_map}
 use Rattle.lrc_frames.specs.Writing.{HoldsCell, HoldsAt, AreHeld, AreHeldEach}
 
 -- the cell of what an item shows: an occurrence a value's, and a symbol's binding that of its list
@@ -102,8 +103,7 @@ module _ (g : Grammar) (parts : List Partition) (p : Production) (s : Standing) 
     value_at x = b.Value (start + x)
 
     value-numbers : (attrs : List ℕ) → map numbered (map value_at attrs) ≡ map (λ x. start + x) attrs
-    value-numbers [] = refl
-    value-numbers (x ∷ xs) = ap (λ ns. (start + x) ∷ ns) (value-numbers xs)
+    value-numbers attrs = map_map numbered value_at attrs
 
     value-cells : (attrs : List ℕ) → map cell_of (map value_at attrs) ≡ map tree_cell (values_at m (map value_at attrs))
     value-cells [] = refl
@@ -124,8 +124,7 @@ module _ (g : Grammar) (parts : List Partition) (p : Production) (s : Standing) 
     bound_at u = b.Kid n u w
 
     bound-numbers : (us : List ℕ) → map numbered (map bound_at us) ≡ map (λ u. numbered (bound_at u)) us
-    bound-numbers [] = refl
-    bound-numbers (u ∷ us) = ap (λ ns. numbered (bound_at u) ∷ ns) (bound-numbers us)
+    bound-numbers us = map_map numbered bound_at us
 
     bound-cells : (us : List ℕ) → map cell_of (map bound_at us) ≡ map binding_cell (map (λ u. binding_in (m (bound_at u))) us)
     bound-cells [] = refl

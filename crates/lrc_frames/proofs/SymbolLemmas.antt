@@ -13,7 +13,7 @@ use Rattle.lrc_base.specs.declared.grammar.Production.{Production}
 use Rattle.lrc_base.specs.declared.signature.Origin.{Origin}
 use Rattle.lrc_base.specs.declared.signature.Origin.TheVariants as origin
 use Rattle.lrc_base.specs.declared.signature.Symbol.{Symbol}
-use Rattle.lrc_meaning.specs.Tree.{Tree, Trees, int, bool, name, node, none, more, in_order, is_sort}
+use Rattle.lrc_meaning.specs.Tree.{Tree, Trees, node, none, more, in_order, is_sort}
 use Rattle.lrc_meaning.specs.Grammar.{Grammar}
 use Rattle.lrc_meaning.specs.Signature.{kid_attributes, extra_attributes, signed_symbol, signed_kids, signed_extras, signed_symbols}
 use Rattle.lrc_order_meaning.specs.declared.Place.{Place}
@@ -33,6 +33,7 @@ use Rattle.lrc_store.specs.Standing.{Standing, Stands, IsKnown, meant}
 use Rattle.lrc_store.specs.declared.cells.Handle.{Handle}
 use Rattle.lrc_store.proofs.Known.{known-stands, stands-meant}
 use Rattle.lrc_code.specs.Forms.{tree_cell, kid_cells, EachNameBelow}
+use Rattle.lrc_code.specs.Reading.{HasKid}
 use Rattle.lrc_call_meaning.specs.Spelled.{IsSpelledName, IsSpelled}
 use Rattle.lrc_eval.specs.declared.values.Val.{Val}
 use Rattle.lrc_eval.specs.declared.values.Val.TheVariants as v
@@ -47,17 +48,10 @@ use Rattle.lrc_frames.specs.Writing.{StandsAt}
 
 -- a value that is no handle means a number or a truth value
 pub no-handle : (s : Standing) (value : Val) (t : Tree) → ((handle : Handle) → value ≡ v.Ref handle → ⊥) → Means s value t → is_name_or_node t ≡ false
-no-handle s (v.Int n) t none m = ap is_name_or_node m
-no-handle s (v.Bool c) t none m = ap is_name_or_node m
-no-handle s (v.Ref handle) t none m = absurd (none handle refl)
-no-handle s v.Unset t none m = absurd m
-
--- and such a tree is of no sort
-pub of-no-sort : (prods : List Production) (t : Tree) (sort : ℕ) → is_name_or_node t ≡ false → is_of_kind prods t (k.Sort sort) ≡ false
-of-no-sort prods (int i) sort e = refl
-of-no-sort prods (bool c) sort e = refl
-of-no-sort prods (name n) sort e = absurd (false≢true (sym e))
-of-no-sort prods (node p kids) sort e = absurd (false≢true (sym e))
+no-handle s (v.Int n) t unheld m = ap is_name_or_node m
+no-handle s (v.Bool c) t unheld m = ap is_name_or_node m
+no-handle s (v.Ref handle) t unheld m = absurd (unheld handle refl)
+no-handle s v.Unset t unheld m = absurd m
 
 -- a child's handle stands for it
 pub kid-stands : (s u : Standing) (parent kid i : ℕ) (t : Tree) → HasKid (meant s parent) i (tree_cell t) → IsKnown u kid → HasKid (meant s parent) i (meant u kid) → Stands u kid (tree_cell t)
@@ -82,13 +76,13 @@ module _ (i : ℕ) where
   abbrev NoChild : List Symbol → Type 0
   NoChild symbols = (m : ℕ) (y : Symbol) → slice_get symbols m ≡ Some y → y.origin ≡ origin.Child i → ⊥
 
-  extra-over : (name : List ℕ) (kind : Kind) (attached : Bool) (start : ℕ) (later : List Symbol) → NoChild later → NoChild (cond attached (signed_symbol name kind (origin.Value start) (start + 1)) [] ++ later)
-  extra-over name kind false start later childless m y e is = childless m y e is
-  extra-over name k.Int true start later childless m y e is = childless m y e is
-  extra-over name k.Bool true start later childless m y e is = childless m y e is
-  extra-over name k.Name true start later childless m y e is = childless m y e is
-  extra-over name (k.Sort s) true start later childless zero y e is = no-child start i (ap (λ (z : Symbol). z.origin) (same_Some _ y e) ∙ is)
-  extra-over name (k.Sort s) true start later childless (suc m) y e is = childless m y e is
+  extra-over : (called : List ℕ) (kind : Kind) (attached : Bool) (start : ℕ) (later : List Symbol) → NoChild later → NoChild (cond attached (signed_symbol called kind (origin.Value start) (start + 1)) [] ++ later)
+  extra-over called kind false start later childless m y e is = childless m y e is
+  extra-over called k.Int true start later childless m y e is = childless m y e is
+  extra-over called k.Bool true start later childless m y e is = childless m y e is
+  extra-over called k.Name true start later childless m y e is = childless m y e is
+  extra-over called (k.Sort s) true start later childless zero y e is = no-child start i (ap (λ (z : Symbol). z.origin) (same_Some _ y e) ∙ is)
+  extra-over called (k.Sort s) true start later childless (suc m) y e is = childless m y e is
 
   extras-none : (sorts : List Sort) (start : ℕ) (xs : List Extra) → NoChild (signed_extras sorts start xs)
   extras-none sorts start [] m y e is = absurd (none-some y e)
@@ -98,15 +92,15 @@ module _ (i : ℕ) where
   kid-later : (t : Tree) (ts : Trees) (trees : List Tree) (from m : ℕ) → KidAt i ts trees (from + 1) m → KidAt i (more t ts) trees from m
   kid-later t ts trees from m r = record { passed = suc r.passed; place = (let place = r.place in omega (arith, place)); at = r.at }
 
-  kid-over : (name : List ℕ) (kind : Kind) (start from n : ℕ) (t : Tree) (ts : Trees) (later : List Symbol) (trees : List Tree) (x : Symbol) → ((m : ℕ) → slice_get later m ≡ Some x → KidAt i ts trees (from + 1) m)
-      → slice_get (signed_symbol name kind (origin.Child from) start ++ later) n ≡ Some x → x.origin ≡ origin.Child i → KidAt i (more t ts) (cond (is_sort kind) (t ∷ trees) trees) from n
-  kid-over name k.Int start from n t ts later trees x rest e is = kid-later t ts trees from n (rest n e)
-  kid-over name k.Bool start from n t ts later trees x rest e is = kid-later t ts trees from n (rest n e)
-  kid-over name k.Name start from n t ts later trees x rest e is = kid-later t ts trees from n (rest n e)
-  kid-over name (k.Sort s) start from zero t ts later trees x rest e is =
+  kid-over : (called : List ℕ) (kind : Kind) (start from n : ℕ) (t : Tree) (ts : Trees) (later : List Symbol) (trees : List Tree) (x : Symbol) → ((m : ℕ) → slice_get later m ≡ Some x → KidAt i ts trees (from + 1) m)
+      → slice_get (signed_symbol called kind (origin.Child from) start ++ later) n ≡ Some x → x.origin ≡ origin.Child i → KidAt i (more t ts) (cond (is_sort kind) (t ∷ trees) trees) from n
+  kid-over called k.Int start from n t ts later trees x rest e is = kid-later t ts trees from n (rest n e)
+  kid-over called k.Bool start from n t ts later trees x rest e is = kid-later t ts trees from n (rest n e)
+  kid-over called k.Name start from n t ts later trees x rest e is = kid-later t ts trees from n (rest n e)
+  kid-over called (k.Sort s) start from zero t ts later trees x rest e is =
       let same : from ≡ i = same-child from i (ap (λ (z : Symbol). z.origin) (same_Some _ x e) ∙ is) in
       record { passed = 0; place = omega arith; at = refl }
-  kid-over name (k.Sort s) start from (suc m) t ts later trees x rest e is =
+  kid-over called (k.Sort s) start from (suc m) t ts later trees x rest e is =
       let r = rest m e in
       record { passed = suc r.passed; place = (let place = r.place in omega (arith, place)); at = r.at }
 

@@ -1,3 +1,6 @@
 pub mod Frames
+pub mod Lists
+pub mod Nodes
 pub mod Steps
+pub mod Taking
 pub mod Writing

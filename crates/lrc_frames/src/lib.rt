@@ -9,9 +9,15 @@ mod body;
 mod calling;
 mod ending;
 mod evaluating;
+mod filling;
 mod items;
+mod lists;
+mod nodes;
+mod reading;
+mod taking;
 
 pub use body::Body;
 pub use calling::make_call;
 pub use ending::finish;
 pub use evaluating::evaluate_into;
+pub use taking::take_result;

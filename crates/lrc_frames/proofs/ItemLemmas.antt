@@ -1,0 +1,79 @@
+-- What visits take and give are items of the production, and lists of their numbers are those of the items.
+use Rattle.std.proofs.Common.{◌≡◌, ℕ, suc, ◌+◌, ◌-◌, ◌<◌, ◌≤◌, Bool, List, [], ◌∷◌, length, map, Contains, refl, sym, ap, ◌∙◌, subst, arith}
+use Rattle.std.specs.Prelude.{flat_map}
+use Rattle.std.specs.List.{range_with_len}
+use Rattle.std.proofs.lemmas.List.Elements.{All-contains, Contains-append_left, Contains-append_right}
+use Rattle.lrc_base.specs.declared.grammar.Sort.{Sort}
+use Rattle.lrc_base.specs.declared.grammar.Production.{Production}
+use Rattle.lrc_meaning.specs.Grammar.{attrs_of_sort, occurrences_of}
+use Rattle.lrc_order_meaning.specs.declared.Partition.{Partition}
+use Rattle.lrc_order_meaning.specs.Needs.{symbols_of, left_place}
+use Rattle.lrc_order_meaning.proofs.MemberLemmas.{member_map, member_of_map, member_flat, member_range, member_of_range}
+use Rattle.lrc_ordered.proofs.PlaceLemmas.{places_within}
+use Rattle.lrc_plan_meaning.specs.declared.Bound.{Bound}
+use Rattle.lrc_plan_meaning.specs.declared.Bound.TheVariants as b
+use Rattle.lrc_plan_meaning.specs.Items.{visits_of, attrs_of_visit, values_of_visit, symbol_at}
+use Rattle.lrc_plan_meaning.specs.Bindings.{bindings_at, items_of}
+use Rattle.lrc_plan.proofs.InLemmas.{values_in}
+use Rattle.lrc_functions.specs.Numbers.{number}
+use Rattle.lrc_functions.specs.Functions.{values_from}
+
+pub map_map : {X Y Z : Type 0} (g : Y → Z) (f : X → Y) (xs : List X) → map g (map f xs) ≡ map (λ x. g (f x)) xs
+map_map g f [] = refl
+map_map g f (x ∷ xs) = ap (λ zs. g (f x) ∷ zs) (map_map g f xs)
+
+module _ (sorts : List Sort) (parts : List Partition) (p : Production) where
+  abbrev total : ℕ
+  total = length (occurrences_of sorts p)
+
+  abbrev visits_at_symbol : ℕ → ℕ
+  visits_at_symbol n = visits_of parts (symbol_at sorts p n).sort
+
+  value_listed : (o : ℕ) → o < total → Contains (items_of sorts parts p) (b.Value o)
+  value_listed o less =
+      Contains-append_left (map b.Value (range_with_len 0 total)) (flat_map (λ n. bindings_at n (visits_at_symbol n)) (range_with_len 0 (length (symbols_of sorts p)))) (b.Value o)
+      (member_map b.Value (range_with_len 0 total) o (member_range 0 total o (omega arith) (omega arith)))
+
+  kid_listed : (n i j : ℕ) → n < length (symbols_of sorts p) → 1 ≤ i → i < j → j ≤ visits_at_symbol n → Contains (items_of sorts parts p) (b.Kid n i j)
+  kid_listed n i j there one less le =
+      let all = visits_at_symbol n in
+      Contains-append_right (map b.Value (range_with_len 0 total)) (flat_map (λ m. bindings_at m (visits_at_symbol m)) (range_with_len 0 (length (symbols_of sorts p)))) (b.Kid n i j)
+      (member_flat (λ m. bindings_at m (visits_at_symbol m)) (range_with_len 0 (length (symbols_of sorts p))) n (b.Kid n i j) (member_range 0 (length (symbols_of sorts p)) n (omega arith) (omega arith))
+      (member_flat (λ k. map (b.Kid n k) (range_with_len (k + 1) (all - k))) (range_with_len 1 all) i (b.Kid n i j) (member_range 1 all i one (omega arith))
+      (member_map (b.Kid n i) (range_with_len (i + 1) (all - i)) j (member_range (i + 1) (all - i) j (omega arith) (omega arith)))))
+
+  values_listed : (inherited : Bool) (s start v : ℕ) → start + length (attrs_of_sort sorts s) ≤ total → (x : Bound) → Contains (values_of_visit sorts parts inherited s start v) x
+      → Contains (items_of sorts parts p) x
+  values_listed inherited s start v le x c =
+      All-contains (Contains (items_of sorts parts p)) (values_of_visit sorts parts inherited s start v) x
+      (values_in sorts parts (Contains (items_of sorts parts p)) inherited s start v (λ k less. value_listed (start + k) (omega arith))) c
+
+  -- the values of a visit of the left side, and of a symbol
+  pub left_listed : (inherited : Bool) (v : ℕ) (x : Bound) → Contains (values_of_visit sorts parts inherited p.left 0 v) x → Contains (items_of sorts parts p) x
+  left_listed inherited v =
+      let within = places_within sorts p 0 (left_place p) (omega arith) in
+      values_listed inherited p.left 0 v within
+
+  pub symbol_listed : (inherited : Bool) (n v : ℕ) → n < length (symbols_of sorts p) → (x : Bound)
+      → Contains (values_of_visit sorts parts inherited (symbol_at sorts p n).sort (symbol_at sorts p n).start v) x → Contains (items_of sorts parts p) x
+  symbol_listed inherited n v there =
+      let within = places_within sorts p (suc n) (left_place p) (omega arith) in
+      values_listed inherited (symbol_at sorts p n).sort (symbol_at sorts p n).start v within
+
+  -- the bindings that a visit of a symbol gives
+  abbrev pub later_of : ℕ → ℕ → List Bound
+  later_of n v = map (λ w. b.Kid n v w) (range_with_len (v + 1) (visits_at_symbol n - v))
+
+  pub later_listed : (n v : ℕ) → n < length (symbols_of sorts p) → 1 ≤ v → v ≤ visits_at_symbol n → (x : Bound) → Contains (later_of n v) x → Contains (items_of sorts parts p) x
+  later_listed n v there one le x c =
+      let found = member_of_map (λ w. b.Kid n v w) (range_with_len (v + 1) (visits_at_symbol n - v)) x c in
+      let within = member_of_range (v + 1) (visits_at_symbol n - v) found.0 found.1 in
+      subst (Contains (items_of sorts parts p)) found.2 (kid_listed n v found.0 there one (omega (arith, within)) (omega (arith, within, le)))
+
+  -- ---- numbers
+
+  pub values_numbered : (inherited : Bool) (s start v : ℕ) → values_from sorts parts inherited s start v ≡ map (number sorts parts p) (values_of_visit sorts parts inherited s start v)
+  values_numbered inherited s start v = sym (map_map (number sorts parts p) (λ x. b.Value (start + x)) (attrs_of_visit sorts parts inherited s v))
+
+  pub later_numbered : (n v : ℕ) → map (λ w. number sorts parts p (b.Kid n v w)) (range_with_len (v + 1) (visits_at_symbol n - v)) ≡ map (number sorts parts p) (later_of n v)
+  later_numbered n v = sym (map_map (number sorts parts p) (λ w. b.Kid n v w) (range_with_len (v + 1) (visits_at_symbol n - v)))
