@@ -8,6 +8,7 @@ use Rattle.std.proofs.lemmas.List.Elements.{All-contains, Contains-append_left, 
 use Rattle.lrc_base.specs.declared.grammar.Kind.TheVariants as k
 use Rattle.lrc_base.specs.declared.grammar.Production.{Production}
 use Rattle.lrc_base.specs.declared.signature.Origin.{Origin}
+use Rattle.lrc_meaning.specs.Tree.{Tree}
 use Rattle.lrc_meaning.specs.Grammar.{Grammar}
 use Rattle.lrc_meaning.specs.Limits.{IsWithinLimits}
 use Rattle.lrc_order_meaning.specs.declared.Place.{Place}
@@ -21,13 +22,13 @@ use Rattle.lrc_visit_meaning.specs.Values.{Call}
 use Rattle.lrc_visit_meaning.specs.Visits.{is_of_kind, call_of}
 use Rattle.lrc_cell_laws.proofs.TagLemmas.{nine_visits}
 use Rattle.lrc_store.specs.Cells.{CellTree, pair, parts as parts_of, IsWithin}
-use Rattle.lrc_store.specs.Standing.{Standing, Stands, meant}
+use Rattle.lrc_store.specs.Standing.{Standing, Stands, IsKnown, meant}
 use Rattle.lrc_store.specs.Words.{Keeps, Reads, Adds, LacksOne}
 use Rattle.lrc_store.specs.declared.cells.Handle.{Handle}
 use Rattle.lrc_store.specs.declared.stores.Full.{Full}
-use Rattle.lrc_store.proofs.Known.{stands-meant}
-use Rattle.lrc_store.proofs.Lasting.{stays-gains}
-use Rattle.lrc_code.specs.Forms.{tree_cell, call_cell}
+use Rattle.lrc_store.proofs.Known.{stands-known, stands-meant}
+use Rattle.lrc_store.proofs.Lasting.{lasts-then, stays-gains}
+use Rattle.lrc_code.specs.Forms.{list_cell, tree_cell, call_cell}
 use Rattle.lrc_code.specs.Building.{Builds}
 use Rattle.lrc_code.proofs.Growing.{left-within, right-within, builds-then}
 use Rattle.lrc_call_meaning.specs.Forms.{values_cell, bindings_cell, binding_cell, call_form}
@@ -38,7 +39,7 @@ use Rattle.lrc_functions.specs.declared.function.Callee.{Callee}
 use Rattle.lrc_frames.specs.declared.body.Body.{Body}
 use Rattle.lrc_frames.specs.Frames.{Run}
 use Rattle.lrc_frames.specs.Steps.{is_callable, call_cells, Calls}
-use Rattle.lrc_frames.specs.Writing.{AreHeld, FindsNode, CanCall}
+use Rattle.lrc_frames.specs.Writing.{AreHeld, StandsAt, FindsNode, CanCall}
 use Rattle.lrc_frames.proofs.MadeLemmas.{held-lasts, one-stopped, other-stopped, both-built}
 use Rattle.lrc_frames.proofs.ShownLemmas.{IsShown, values-held, values-spelled, bounds-held, bounds-spelled}
 use Rattle.lrc_frames.proofs.SymbolLemmas.{TreeThere, tree-there}
@@ -136,13 +137,13 @@ module _ (g : Grammar) (parts : List Partition) (s : Standing) (frame : List Val
 
   -- what it takes stands at the numbers of its callee, later too
   module _ (t : Standing) (keeps : Keeps s t) where
-    pub inherited-held : (read : List ℕ) → read ≡ callee.inherited → AreHeld t frame read (map tree_cell call.inherited)
+    inherited-held : (read : List ℕ) → read ≡ callee.inherited → AreHeld t frame read (map tree_cell call.inherited)
     inherited-held read e =
         let is = ap (λ (c : Callee). c.inherited) can.is_callee in
         subst (λ (ns : List ℕ). AreHeld t frame ns (map tree_cell call.inherited)) (sym (e ∙ is))
         (held-lasts s t frame (map (λ x. place.start + x) attrs) (map tree_cell call.inherited) keeps (values-held g parts r.production s frame r.held place.start attrs value-shown))
 
-    pub earlier-held : (read : List ℕ) → read ≡ callee.earlier → AreHeld t frame read (map binding_cell call.bindings)
+    earlier-held : (read : List ℕ) → read ≡ callee.earlier → AreHeld t frame read (map binding_cell call.bindings)
     earlier-held read e =
         let is = ap (λ (c : Callee). c.earlier) can.is_callee in
         subst (λ (ns : List ℕ). AreHeld t frame ns (map binding_cell call.bindings)) (sym (e ∙ is))
@@ -161,25 +162,38 @@ module _ (g : Grammar) (parts : List Partition) (s : Standing) (frame : List Val
   sort-is : callee.sort ≡ place.sort
   sort-is = ap (λ (c : Callee). c.sort) can.is_callee
 
-  -- what is found of its tree tells whether it can be called
-  module _ (prods : List Production) (same : prods ≡ g.prods) (u : Standing) where
-    kind-is : is_of_kind prods call.tree (k.Sort callee.sort) ≡ is_callable g parts r n
-    kind-is = ap (λ (qs : List Production). is_of_kind qs call.tree (k.Sort callee.sort)) same ∙ ap (λ n. is_of_kind g.prods call.tree (k.Sort n)) sort-is
-
-    pub found-none : FindsNode prods u callee.sort call.tree None → is_callable g parts r n ≡ false
-    found-none h = sym kind-is ∙ h
-
-    pub found-some : (handle : Handle) → FindsNode prods u callee.sort call.tree (Some handle) → (is_callable g parts r n ≡ true) × Stands u handle.0 (tree_cell call.tree)
-    found-some handle h = (sym kind-is ∙ h.0, h.1)
+  kind-is : (prods : List Production) → prods ≡ g.prods → is_of_kind prods call.tree (k.Sort callee.sort) ≡ is_callable g parts r n
+  kind-is prods same = ap (λ (qs : List Production). is_of_kind qs call.tree (k.Sort callee.sort)) same ∙ ap (λ n. is_of_kind g.prods call.tree (k.Sort n)) sort-is
 
   pub visit-within : v ≤ 223 → callee.visit ≤ 223
   visit-within fits = let same = visit-is in omega (arith, same, fits)
 
-  -- ---- what is answered
+  -- ---- the steps of its call
 
-  -- where the tree is no node of the sort, nothing is made
-  pub calls-nothing : (t : Standing) → Reads s t → is_callable g parts r n ≡ false → Calls g parts s t r n v (Ok None)
-  calls-nothing t reads never = record { adds = reads-adds s t (call_cells g parts r n v) reads; ok = never; full = tt }
+  -- the tree is no node of the sort, and nothing is made
+  pub not-found : (prods : List Production) → prods ≡ g.prods → (t : Standing) → Reads s t → ((x : Tree) → StandsAt s frame body callee.tree x → FindsNode prods t callee.sort x None) → Calls g parts s t r n v (Ok None)
+  not-found prods same t reads finds =
+      record { adds = reads-adds s t (call_cells g parts r n v) reads; ok = sym (kind-is prods same) ∙ finds call.tree tree-stands.stands; full = tt }
+
+  -- the tree is found
+  pub record IsFound (t : Standing) (tree : Handle) : Type 0 where
+    pub reads : Reads s t
+    pub callable : is_callable g parts r n ≡ true
+    pub stands : Stands t tree.0 (tree_cell call.tree)
+
+  pub found : (prods : List Production) → prods ≡ g.prods → (t : Standing) (tree : Handle) → Reads s t → ((x : Tree) → StandsAt s frame body callee.tree x → FindsNode prods t callee.sort x (Some tree)) → IsFound t tree
+  found prods same t tree reads finds =
+      let node = finds call.tree tree-stands.stands in record { reads = reads; callable = sym (kind-is prods same) ∙ node.0; stands = node.1 }
+
+  -- then the list of the values is put
+  pub record IsListed (t u : Standing) (tree one : Handle) : Type 0 where
+    pub found : IsFound t tree
+    pub first : Builds t u (values_cell call.inherited) (Ok one)
+
+  -- and then that of the bindings
+  pub record IsReady (t u w : Standing) (tree one two : Handle) : Type 0 where
+    pub listed : IsListed t u tree one
+    pub second : Builds u w (bindings_cell call.bindings) (Ok two)
 
   module _ (callable : is_callable g parts r n ≡ true) where
     abbrev whole : List CellTree
@@ -188,36 +202,68 @@ module _ (g : Grammar) (parts : List Partition) (s : Standing) (frame : List Val
     cells-are : whole ≡ call_cells g parts r n v
     cells-are = ap (λ c. cond c whole []) (sym callable)
 
-    called : (w : Standing) (handle : Handle) → Builds s w (call_form call) (Ok handle) → Calls g parts s w r n v (Ok (Some handle))
-    called w handle built = record { adds = subst (Adds s w) cells-are built.adds; ok = (callable, built.ok, call-spelled); full = tt }
+    called : (z : Standing) (handle : Handle) → Builds s z (call_form call) (Ok handle) → Calls g parts s z r n v (Ok (Some handle))
+    called z handle built = record { adds = subst (Adds s z) cells-are built.adds; ok = (callable, built.ok, call-spelled); full = tt }
 
-    stopped : (w : Standing) (e : Full) (answer : Result (Option Handle) Full) → IsErr answer → Builds s w (call_form call) (Err e) → Calls g parts s w r n v answer
-    stopped w e (Ok found) is built = absurd (false≢true is)
-    stopped w e (Err f) is built = record { adds = subst (Adds s w) cells-are built.adds; ok = tt; full = subst (LacksOne w) cells-are built.full }
+    stopped : (z : Standing) (e : Full) (answer : Result (Option Handle) Full) → IsErr answer → Builds s z (call_form call) (Err e) → Calls g parts s z r n v answer
+    stopped z e (Ok made) is built = absurd (false≢true is)
+    stopped z e (Err f) is built = record { adds = subst (Adds s z) cells-are built.adds; ok = tt; full = subst (LacksOne z) cells-are built.full }
 
-    module _ (s1 t : Standing) (reads : Reads s s1) where
-      pub calls-at-values : (e : Full) (answer : Result (Option Handle) Full) → IsErr answer → Builds s1 t (values_cell call.inherited) (Err e) → Calls g parts s t r n v answer
-      calls-at-values e answer is first = stopped t e answer is (stopped-at-values call s s1 t reads e first)
+  -- the values are put from the store where the tree was found
+  module _ (t : Standing) (tree : Handle) (h : IsFound t tree) (read : List ℕ) (same : read ≡ callee.inherited) where
+    pub values-there : AreHeld t frame read (map tree_cell call.inherited)
+    values-there = inherited-held t h.reads.stays.lasts.known read same
 
-      module _ (u : Standing) (one : Handle) (first : Builds s1 t (values_cell call.inherited) (Ok one)) where
-        pub calls-at-bindings : (e : Full) (answer : Result (Option Handle) Full) → IsErr answer → Builds t u (bindings_cell call.bindings) (Err e) → Calls g parts s u r n v answer
-        calls-at-bindings e answer is second = stopped u e answer is (stopped-at-bindings call s s1 t reads u one first e second)
+    -- what putting them answers
+    abbrev PutsValues : Standing → Result Handle Full → Type 0
+    PutsValues u answer = (cells : List CellTree) → AreHeld t frame read cells → Builds t u (list_cell cells) answer
 
-        module _ (w : Standing) (two tree : Handle) (second : Builds t u (bindings_cell call.bindings) (Ok two)) (stands : Stands s1 tree.0 (tree_cell call.tree)) where
-          abbrev Answers : Result Handle Full → Type 0
-          Answers answer = Builds u w (call_cell (meant u tree.0) callee.visit (meant u one.0) (meant u two.0)) answer
+    pub values-stopped : (u : Standing) (e : Full) (answer : Result (Option Handle) Full) → IsErr answer → PutsValues u (Err e) → Calls g parts s u r n v answer
+    values-stopped u e answer is puts =
+        stopped h.callable u e answer is (stopped-at-values call s t u h.reads e (puts (map tree_cell call.inherited) values-there))
 
-          -- the tree's handle stands for it still
-          tree-later : Stands u tree.0 (tree_cell call.tree)
-          tree-later = second.adds.gains.lasts.known tree.0 (tree_cell call.tree) (first.adds.gains.lasts.known tree.0 (tree_cell call.tree) stands)
+    pub listed : (u : Standing) (one : Handle) → PutsValues u (Ok one) → IsListed t u tree one
+    listed u one puts = record { found = h; first = puts (map tree_cell call.inherited) values-there }
 
-          built : (answer : Result Handle Full) → Answers answer → Builds s w (call_form call) answer
-          built answer h =
-              all-built call s s1 t reads u one first w two (meant u tree.0) answer second (stands-meant u tree.0 (tree_cell call.tree) tree-later)
-              (subst (λ x. Builds u w (call_cell (meant u tree.0) x (meant u one.0) (meant u two.0)) answer) visit-is h)
+  -- and the bindings behind them
+  module _ (t u : Standing) (tree one : Handle) (h : IsListed t u tree one) (read : List ℕ) (same : read ≡ callee.earlier) where
+    pub bindings-there : AreHeld u frame read (map binding_cell call.bindings)
+    bindings-there = earlier-held u (lasts-then s t u h.found.reads.stays.lasts h.first.adds.gains.lasts).known read same
 
-          pub calls-at-last : (e : Full) (answer : Result (Option Handle) Full) → IsErr answer → Answers (Err e) → Calls g parts s w r n v answer
-          calls-at-last e answer is h = stopped w e answer is (built (Err e) h)
+    abbrev PutsBindings : Standing → Result Handle Full → Type 0
+    PutsBindings w answer = (cells : List CellTree) → AreHeld u frame read cells → Builds u w (list_cell cells) answer
 
-          pub calls : (handle : Handle) → Answers (Ok handle) → Calls g parts s w r n v (Ok (Some handle))
-          calls handle h = called w handle (built (Ok handle) h)
+    pub bindings-stopped : (w : Standing) (e : Full) (answer : Result (Option Handle) Full) → IsErr answer → PutsBindings w (Err e) → Calls g parts s w r n v answer
+    bindings-stopped w e answer is puts =
+        stopped h.found.callable w e answer is (stopped-at-bindings call s t u h.found.reads w one h.first e (puts (map binding_cell call.bindings) bindings-there))
+
+    pub ready : (w : Standing) (two : Handle) → PutsBindings w (Ok two) → IsReady t u w tree one two
+    ready w two puts = record { listed = h; second = puts (map binding_cell call.bindings) bindings-there }
+
+  -- and the call over all three
+  module _ (t u w : Standing) (tree one two : Handle) (h : IsReady t u w tree one two) where
+    tree-later : Stands w tree.0 (tree_cell call.tree)
+    tree-later = h.second.adds.gains.lasts.known tree.0 (tree_cell call.tree) (h.listed.first.adds.gains.lasts.known tree.0 (tree_cell call.tree) h.listed.found.stands)
+
+    pub tree-known : IsKnown w tree.0
+    tree-known = stands-known w tree.0 (tree_cell call.tree) tree-later
+
+    pub values-known : IsKnown w one.0
+    values-known = stands-known w one.0 (values_cell call.inherited) (h.second.adds.gains.lasts.known one.0 (values_cell call.inherited) h.listed.first.ok.stands)
+
+    pub bindings-known : IsKnown w two.0
+    bindings-known = stands-known w two.0 (bindings_cell call.bindings) h.second.ok.stands
+
+    abbrev PutsCall : Standing → Result Handle Full → Type 0
+    PutsCall z answer = Builds w z (call_cell (meant w tree.0) callee.visit (meant w one.0) (meant w two.0)) answer
+
+    built : (z : Standing) (answer : Result Handle Full) → PutsCall z answer → Builds s z (call_form call) answer
+    built z answer puts =
+        all-built call s t u h.listed.found.reads w one h.listed.first z two (meant w tree.0) answer h.second (stands-meant w tree.0 (tree_cell call.tree) tree-later)
+        (subst (λ x. Builds w z (call_cell (meant w tree.0) x (meant w one.0) (meant w two.0)) answer) visit-is puts)
+
+    pub call-stopped : (z : Standing) (e : Full) (answer : Result (Option Handle) Full) → IsErr answer → PutsCall z (Err e) → Calls g parts s z r n v answer
+    call-stopped z e answer is puts = stopped h.listed.found.callable z e answer is (built z (Err e) puts)
+
+    pub calls : (z : Standing) (handle : Handle) → PutsCall z (Ok handle) → Calls g parts s z r n v (Ok (Some handle))
+    calls z handle puts = called h.listed.found.callable z handle (built z (Ok handle) puts)
