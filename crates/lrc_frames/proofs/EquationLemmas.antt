@@ -18,6 +18,8 @@ use Rattle.lrc_base.specs.declared.grammar.Production.{Production}
 use Rattle.lrc_meaning.specs.Tree.{Trees, none, more, same_kind, in_order}
 use Rattle.lrc_meaning.specs.Expression.{Expression, literal, occurrence, leaf, binary, choice, make, Expressions, no_more, and_more, expression}
 use Rattle.lrc_meaning.specs.Grammar.{Grammar, Occurrence, occurrences_of, common_kind, of_kind, operated_kind, leaf_kind, expression_kind, have_kinds, is_equation_right, is_well_formed}
+use Rattle.lrc_base.specs.declared.limits.TheConstants.{PRODUCTION_LIMIT}
+use Rattle.lrc_meaning.specs.Limits.{IsWithinLimits}
 use Rattle.lrc_meaning.specs.Signature as signature
 use Rattle.lrc_meaning.specs.Signature.{signed_occurrences}
 use Rattle.lrc_meaning.proofs.ListLemmas.{list_all-at}
@@ -216,8 +218,16 @@ module _ {X : Type 0} (xs read : List X) (i : ℕ) (x : X) (there : slice_get xs
 abbrev pub inputs : Grammar → Body → Run → Inputs
 inputs g body r = record { values = values_in g r.production r.held; production = body.production; trees = r.kids; kids = r.production.kids }
 
-module _ (g : Grammar) (parts : List Partition) (formed : IsTrue (is_well_formed g)) (few : length g.prods ≤ 65280) where
-  pub given : (s : Standing) (frame : List Val) (body : Body) (x : ℕ) (equation : Option ℕ) (r : Run) → CanEvaluate g parts s frame body x equation r
+-- the equation defines the occurrence, and what it reads is given
+pub record IsEquation (g : Grammar) (s : Standing) (frame : List Val) (body : Body) (x : ℕ) (r : Run) (e : Equation) : Type 0 where
+  pub found : equation_of r.production x ≡ Some e
+  pub given : AreGiven s frame body.tree (inputs g body r) (expression e.expr)
+
+module _ (g : Grammar) (parts : List Partition) (formed : IsTrue (is_well_formed g)) (few : IsWithinLimits g) where
+  fits-tags : length g.prods ≤ 65280
+  fits-tags = let most = few.prods in omega (arith, most)
+
+  given : (s : Standing) (frame : List Val) (body : Body) (x : ℕ) (equation : Option ℕ) (r : Run) → CanEvaluate g parts s frame body x equation r
       → (n : ℕ) (e : Equation) → slice_get r.production.equations n ≡ Some e → equation_of r.production x ≡ Some e → AreGiven s frame body.tree (inputs g body r) (expression e.expr)
   given s frame body x equation r can n e at found = record {
     node = record { stands = can.runs.tree; spelled = can.runs.spelled; count = kinds-count g.prods r.kids r.production.kids can.runs.kinds };
@@ -238,7 +248,7 @@ module _ (g : Grammar) (parts : List Partition) (formed : IsTrue (is_well_formed
           of_tree = slice_get-get_or (values_in g r.production r.held) i (value_at i) inside ∙ ap Some (get_or-map-range_with_len value_at 0 total i i (value_at i) less (omega arith));
           meant = shown.shows;
         };
-    fits = equation-fits g formed few body.production r.production can.runs.there n e at;
+    fits = equation-fits g formed fits-tags body.production r.production can.runs.there n e at;
   }
 
   module _ (s : Standing) (frame : List Val) (body : Body) (x : ℕ) (equation : Option ℕ) (r : Run) (can : CanEvaluate g parts s frame body x equation r) where
@@ -260,8 +270,7 @@ module _ (g : Grammar) (parts : List Partition) (formed : IsTrue (is_well_formed
         own : there.0 ≡ e
         own = sym (read-is r.production.equations equations n there.0 there.1 read-same e e-is)
 
-        pub equation-is : equation_of r.production x ≡ Some e
-        equation-is = there.2 ∙ ap Some own
-
-        pub equation-given : AreGiven s frame body.tree (inputs g body r) (expression e.expr)
-        equation-given = given s frame body x equation r can n e (there.1 ∙ ap Some own) equation-is
+        pub equation-there : IsEquation g s frame body x r e
+        equation-there =
+            let found : equation_of r.production x ≡ Some e = there.2 ∙ ap Some own in
+            record { found = found; given = given s frame body x equation r can n e (there.1 ∙ ap Some own) found }

@@ -22,14 +22,15 @@ use Rattle.lrc_store.specs.declared.stores.Full.{Full}
 use Rattle.lrc_store.proofs.Lasting.{adds-same}
 use Rattle.lrc_code.specs.Forms.{tree_cell}
 use Rattle.lrc_eval.specs.declared.values.Val.{Val}
-use Rattle.lrc_eval.specs.Evaluating.{cells_of_trees, built_cells}
+use Rattle.lrc_eval.specs.Evaluating.{Inputs, AreGiven, cells_of_trees, built_cells}
 use Rattle.lrc_eval.specs.Evaluating as eval
+use Rattle.lrc_eval.proofs.FormLemmas.{evaluates-at}
 use Rattle.lrc_frames.specs.declared.body.Body.{Body}
 use Rattle.lrc_frames.specs.Frames.{Run}
 use Rattle.lrc_frames.specs.Steps.{evaluation_cells, Evaluates}
 use Rattle.lrc_frames.specs.Writing.{CanEvaluate}
 use Rattle.lrc_frames.proofs.FrameLemmas.{within_frame, runs_last, runs_evaluated}
-use Rattle.lrc_frames.proofs.EquationLemmas.{inputs}
+use Rattle.lrc_frames.proofs.EquationLemmas.{inputs, IsEquation}
 
 built-are : (ts : List Tree) → cells_of (map built ts) ≡ cells_of_trees ts
 unfolding cells_of met_cell
@@ -54,41 +55,46 @@ module _ (g : Grammar) (parts : List Partition) (s : Standing) (frame : List Val
     full = tt;
   }
 
-  module _ (e : Equation) (found : equation_of r.production x ≡ Some e) where
+  module _ (e : Equation) (there : IsEquation g s frame body x r e) where
     abbrev right : Expression
     right = expression e.expr
 
     cells-are : built_cells (inputs g body r) right ≡ cells
     cells-are =
-        sym (ap (λ q. option_map_or (λ (y : Equation). cells_of (equation_met g (values_in g r.production r.held) (leaf_in r.production.kids r.kids) y)) q []) found
+        sym (ap (λ q. option_map_or (λ (y : Equation). cells_of (equation_met g (values_in g r.production r.held) (leaf_in r.production.kids r.kids) y)) q []) there.found
         ∙ built-are (built_in (values_in g r.production r.held) (leaf_in r.production.kids r.kids) right))
 
     value-is : evaluated g r.production r.kids r.held x ≡ value_of (values_in g r.production r.held) (leaf_in r.production.kids r.kids) right
-    value-is = ap (option_and_then (λ (y : Equation). value_of (values_in g r.production r.held) (leaf_in r.production.kids r.kids) (expression y.expr))) found
+    value-is = ap (option_and_then (λ (y : Equation). value_of (values_in g r.production r.held) (leaf_in r.production.kids r.kids) (expression y.expr))) there.found
 
     module _ (t : Standing) where
+      -- what the evaluation of its right side answers
       abbrev Answers : Result (Option Val) Full → Type 0
-      Answers answer = eval.Evaluates s t (inputs g body r) right answer
+      Answers answer = (i : Inputs) → AreGiven s frame body.tree i right → eval.Evaluates s t i right answer
 
       adds : (answer : Result (Option Val) Full) → Answers answer → Adds s t cells
-      adds answer h = subst (Adds s t) cells-are h.adds
+      adds answer h = subst (Adds s t) cells-are (h (inputs g body r) there.given).adds
 
-      pub evaluates-none : Answers (Ok None) → Evaluates g parts s t frame body r x (Ok false)
-      evaluates-none h = record { adds = adds (Ok None) h; ok = value-is ∙ h.found; full = tt }
+      pub evaluates-none : (found : Option Val) → found ≡ None → Answers (Ok found) → Evaluates g parts s t frame body r x (Ok false)
+      evaluates-none found is h =
+          let nothing = evaluates-at s t (inputs g body r) right found None is (h (inputs g body r) there.given) in
+          record { adds = adds (Ok found) h; ok = value-is ∙ nothing.found; full = tt }
 
       pub evaluates-full : (full : Full) (answer : Result Bool Full) → IsErr answer → Answers (Err full) → Evaluates g parts s t frame body r x answer
       evaluates-full full (Ok c) is h = absurd (false≢true is)
-      evaluates-full full (Err f) is h = record { adds = adds (Err full) h; ok = tt; full = subst (LacksOne t) cells-are h.full }
+      evaluates-full full (Err f) is h =
+          record { adds = adds (Err full) h; ok = tt; full = subst (LacksOne t) cells-are (h (inputs g body r) there.given).full }
 
-      pub evaluates-some : IsTrue (is_well_formed g) → (value : Val) → Answers (Ok (Some value)) → Evaluates g parts s t (set frame x value) body r x (Ok true)
-      evaluates-some formed value h =
+      pub evaluates-some : IsTrue (is_well_formed g) → (found : Option Val) (value : Val) → found ≡ Some value → Answers (Ok found) → Evaluates g parts s t (set frame x value) body r x (Ok true)
+      evaluates-some formed found value is h =
+          let made = evaluates-at s t (inputs g body r) right found (Some value) is (h (inputs g body r) there.given) in
           record {
-            adds = adds (Ok (Some value)) h;
+            adds = adds (Ok found) h;
             ok = (
-              h.found.0,
-              value-is ∙ h.found.1,
-              runs_evaluated g parts t body r frame x value h.found.0 (listed formed) h.found.2 (runs_last g parts s t frame body r h.adds.gains.lasts.known can.runs),
-              subst (λ (cs : List CellTree). Told t.seen (IsWithin cs)) cells-are h.seen,
+              made.found.0,
+              value-is ∙ made.found.1,
+              runs_evaluated g parts t body r frame x value made.found.0 (listed formed) made.found.2 (runs_last g parts s t frame body r made.adds.gains.lasts.known can.runs),
+              subst (λ (cs : List CellTree). Told t.seen (IsWithin cs)) cells-are made.seen,
             );
             full = tt;
           }
