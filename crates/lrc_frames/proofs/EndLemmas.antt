@@ -12,10 +12,10 @@ use Rattle.lrc_plan_meaning.specs.Bindings.{binding as items_between}
 use Rattle.lrc_visit_meaning.specs.Values as plain
 use Rattle.lrc_visit_meaning.specs.Visits.{Held, Walked, result_of}
 use Rattle.lrc_store.specs.Cells.{CellTree, number, pair, parts as parts_of, IsWithin}
-use Rattle.lrc_store.specs.Standing.{Standing, meant}
-use Rattle.lrc_store.specs.Words.{Keeps}
+use Rattle.lrc_store.specs.Standing.{Standing, IsKnown, meant}
 use Rattle.lrc_store.specs.declared.cells.Handle.{Handle}
 use Rattle.lrc_store.specs.declared.stores.Full.{Full}
+use Rattle.lrc_store.proofs.Known.{stands-known}
 use Rattle.lrc_code.specs.Forms.{list_cell, tree_cell, result_cell}
 use Rattle.lrc_code.specs.Building.{Builds}
 use Rattle.lrc_code.proofs.Growing.{left-within, right-within, builds-as}
@@ -76,23 +76,10 @@ module _ (g : Grammar) (parts : List Partition) (s : Standing) (frame : List Val
   abbrev later : List ℕ
   later = range_with_len (v + 1) (visits_of parts r.production.left - v)
 
-  -- what it gives stands at the numbers of its function
-  pub synthesised-held : (read : List ℕ) → read ≡ function.synthesised → AreHeld s frame read (map tree_cell outcome.synthesised)
-  synthesised-held read e =
-      let is : function.synthesised ≡ map (λ x. 0 + x) attrs = ap (λ (f : Function). f.synthesised) can.is_function in
-      subst (λ (ns : List ℕ). AreHeld s frame ns (map tree_cell outcome.synthesised)) (sym (e ∙ is)) (values-held g parts r.production s frame w.held 0 attrs value-shown)
-
   abbrev pub handed_cells : List (List CellTree)
   handed_cells = map (row_cells g parts r.production s frame w.held between fine) later
 
-  -- and so does what it hands on, later too
-  pub later-held : (t : Standing) → Keeps s t → (read : List (List ℕ)) → read ≡ function.later → AreHeldEach t frame read handed_cells
-  later-held t keeps read e =
-      let is = ap (λ (f : Function). f.later) can.is_function in
-      subst (λ (ns : List (List ℕ)). AreHeldEach t frame ns handed_cells) (sym (e ∙ is))
-      (each-lasts s t frame (map (λ u. map (number_of g.sorts parts r.production) (between u)) later) handed_cells keeps (rows-held g parts r.production s frame w.held between fine later))
-
-  pub is-spelled : IsSpelledResult outcome
+  is-spelled : IsSpelledResult outcome
   is-spelled = record {
     synthesised = values-spelled g parts r.production s frame w.held 0 attrs value-shown;
     bindings = rows-spelled g parts r.production s frame w.held between fine later;
@@ -121,13 +108,52 @@ module _ (g : Grammar) (parts : List Partition) (s : Standing) (frame : List Val
   lists-in : IsWithin (parts_of lists) (parts_of whole_cell)
   lists-in = bindings-within height (values_cell outcome.synthesised) lists
 
-  pub ends-at-values : (t : Standing) (e : Full) (answer : Result Handle Full) → IsErr answer → Builds s t (values_cell outcome.synthesised) (Err e) → Ends s t outcome answer
-  ends-at-values t e answer is one = ended t answer (one-stopped (values_cell outcome.synthesised) lists whole_cell values-in lists-in s t e answer is one)
+  -- ---- the steps of its end
 
-  pub ends-at-bindings : (t u : Standing) (first : Handle) (e : Full) (answer : Result Handle Full) → IsErr answer → Builds s t (values_cell outcome.synthesised) (Ok first)
-      → Builds t u lists (Err e) → Ends s u outcome answer
-  ends-at-bindings t u first e answer is one two = ended u answer (other-stopped (values_cell outcome.synthesised) lists whole_cell values-in lists-in s t u first e answer is one two)
+  -- what it gives stands at the numbers of its function
+  module _ (read : List ℕ) (same : read ≡ function.synthesised) where
+    pub values-there : AreHeld s frame read (map tree_cell outcome.synthesised)
+    values-there =
+        let is : function.synthesised ≡ map (λ x. 0 + x) attrs = ap (λ (f : Function). f.synthesised) can.is_function in
+        subst (λ (ns : List ℕ). AreHeld s frame ns (map tree_cell outcome.synthesised)) (sym (same ∙ is)) (values-held g parts r.production s frame w.held 0 attrs value-shown)
 
-  pub ends : (t u w : Standing) (first second : Handle) (answer : Result Handle Full) → Builds s t (values_cell outcome.synthesised) (Ok first) → Builds t u lists (Ok second)
-      → Builds u w (result_cell height (meant u first.0) (meant u second.0)) answer → Ends s w outcome answer
-  ends t u z first second answer one two three = ended z answer (both-built (values_cell outcome.synthesised) lists whole_cell values-in lists-in s t u z first second (result_cell height) answer refl one two three)
+    -- what putting its values answers
+    abbrev PutsValues : Standing → Result Handle Full → Type 0
+    PutsValues t answer = (cells : List CellTree) → AreHeld s frame read cells → Builds s t (list_cell cells) answer
+
+    pub values-stopped : (t : Standing) (e : Full) (answer : Result Handle Full) → IsErr answer → PutsValues t (Err e) → Ends s t outcome answer
+    values-stopped t e answer is puts =
+        ended t answer (one-stopped (values_cell outcome.synthesised) lists whole_cell values-in lists-in s t e answer is (puts (map tree_cell outcome.synthesised) values-there))
+
+    pub listed : (t : Standing) (one : Handle) → PutsValues t (Ok one) → Builds s t (values_cell outcome.synthesised) (Ok one)
+    listed t one puts = puts (map tree_cell outcome.synthesised) values-there
+
+  -- and what it hands on stands there too, once its values are put
+  module _ (t : Standing) (one : Handle) (first : Builds s t (values_cell outcome.synthesised) (Ok one)) (read : List (List ℕ)) (same : read ≡ function.later) where
+    pub bindings-there : AreHeldEach t frame read handed_cells
+    bindings-there =
+        let is = ap (λ (f : Function). f.later) can.is_function in
+        subst (λ (ns : List (List ℕ)). AreHeldEach t frame ns handed_cells) (sym (same ∙ is))
+        (each-lasts s t frame (map (λ u. map (number_of g.sorts parts r.production) (between u)) later) handed_cells first.adds.gains.lasts.known (rows-held g parts r.production s frame w.held between fine later))
+
+    abbrev PutsBindings : Standing → Result Handle Full → Type 0
+    PutsBindings u answer = (rows : List (List CellTree)) → AreHeldEach t frame read rows → Builds t u (list_cell (map list_cell rows)) answer
+
+    pub bindings-stopped : (u : Standing) (e : Full) (answer : Result Handle Full) → IsErr answer → PutsBindings u (Err e) → Ends s u outcome answer
+    bindings-stopped u e answer is puts =
+        ended u answer (other-stopped (values_cell outcome.synthesised) lists whole_cell values-in lists-in s t u one e answer is first (puts handed_cells bindings-there))
+
+    -- and the result is put over both
+    module _ (u : Standing) (two : Handle) (puts : PutsBindings u (Ok two)) where
+      second : Builds t u lists (Ok two)
+      second = puts handed_cells bindings-there
+
+      pub values-known : IsKnown u one.0
+      values-known = stands-known u one.0 (values_cell outcome.synthesised) (second.adds.gains.lasts.known one.0 (values_cell outcome.synthesised) first.ok.stands)
+
+      pub bindings-known : IsKnown u two.0
+      bindings-known = stands-known u two.0 lists second.ok.stands
+
+      pub ends : (z : Standing) (answer : Result Handle Full) → Builds u z (result_cell height (meant u one.0) (meant u two.0)) answer → Ends s z outcome answer
+      ends z answer third =
+          ended z answer (both-built (values_cell outcome.synthesised) lists whole_cell values-in lists-in s t u z one two (result_cell height) answer refl first second third)
