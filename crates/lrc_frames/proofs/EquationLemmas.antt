@@ -18,7 +18,6 @@ use Rattle.lrc_base.specs.declared.grammar.Production.{Production}
 use Rattle.lrc_meaning.specs.Tree.{Trees, none, more, same_kind, in_order}
 use Rattle.lrc_meaning.specs.Expression.{Expression, literal, occurrence, leaf, binary, choice, make, Expressions, no_more, and_more, expression}
 use Rattle.lrc_meaning.specs.Grammar.{Grammar, Occurrence, occurrences_of, common_kind, of_kind, operated_kind, leaf_kind, expression_kind, have_kinds, is_equation_right, is_well_formed}
-use Rattle.lrc_base.specs.declared.limits.TheConstants.{PRODUCTION_LIMIT}
 use Rattle.lrc_meaning.specs.Limits.{IsWithinLimits}
 use Rattle.lrc_meaning.specs.Signature as signature
 use Rattle.lrc_meaning.specs.Signature.{signed_occurrences}
