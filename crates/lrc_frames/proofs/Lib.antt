@@ -5,3 +5,4 @@ pub mod ItemLemmas
 pub mod TakeLemmas
 pub mod NodeLemmas
 pub mod EachLemmas
+pub mod BeginLemmas

@@ -3,3 +3,4 @@ pub mod Lists
 pub mod Nodes
 pub mod Steps
 pub mod Taking
+pub mod Beginning

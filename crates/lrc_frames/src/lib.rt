@@ -5,6 +5,7 @@
 //! is made of it. No step runs another visit, remembers anything, or takes memory.
 #![tactic(auto)]
 
+mod beginning;
 mod body;
 mod filling;
 mod lists;
@@ -12,5 +13,6 @@ mod nodes;
 mod reading;
 mod taking;
 
+pub use beginning::begin;
 pub use body::Body;
 pub use taking::take_result;
