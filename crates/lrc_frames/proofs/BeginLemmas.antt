@@ -83,7 +83,7 @@ call_read s t handle c found stands has =
     let inherited = values_cell c.inherited in
     let bindings = bindings_cell c.bindings in
     let same : call_cell tree c.visit inherited bindings ≡ call_cell (meant t found.tree.0) found.visit (meant t found.inherited.0) (meant t found.bindings.0) =
-        sym (stands-meant s handle (call_form c) stands) ∙ has.whole in
+    sym (stands-meant s handle (call_form c) stands) ∙ has.whole in
     record {
       tree = known-stands t found.tree.0 has.tree ∙ ap Some (sym (same_tree c.visit found.visit tree inherited bindings (meant t found.tree.0) (meant t found.inherited.0) (meant t found.bindings.0) same));
       visit = sym (same_visit c.visit found.visit tree inherited bindings (meant t found.tree.0) (meant t found.inherited.0) (meant t found.bindings.0) same);
@@ -239,9 +239,10 @@ module _ (g : Grammar) (parts : List Partition) where
     pub handed : (t : Standing) (after : List Val) (all : Bool) → length given ≡ length values → FilledEachIf g parts t after body (gaining (bare p kids) values given) items visits c.bindings all
         → HandedIf g parts t after body p kids c all
     handed t after false same filled = handed_other p c filled
-    handed t after true same filled =
-        (has_form p c hands.first hands.last (sym value_counts ∙ same ∙ item_counts) filled.0,
-        subst (λ (q : Run). RunsAt g parts t after body q) (gaining_then (bare p kids) values (flat_map items visits) given (flat_map data_list c.bindings) same) filled.1)
+    handed t after true same filled = (
+      has_form p c hands.first hands.last (sym value_counts ∙ same ∙ item_counts) filled.0,
+      subst (λ (q : Run). RunsAt g parts t after body q) (gaining_then (bare p kids) values (flat_map items visits) given (flat_map data_list c.bindings) same) filled.1,
+    )
 
   -- ---- a body at its start
 

@@ -13,8 +13,9 @@ ghost use Rattle.lrc_call_meaning.specs.Spelled.{IsSpelledCall};
 ghost use Rattle.lrc_frames.specs.Beginning.{IsOfNodeIf, HandsIn, HandedIf};
 ghost use Rattle.lrc_frames.specs.Steps.{BeginsIf};
 
+use crate::bindings::fill_each;
 use crate::body::Body;
-use crate::filling::{fill, fill_each};
+use crate::filling::fill;
 use crate::nodes::{are_of_kinds, node_of};
 use crate::reading::Reading;
 use lrc_code::{CallParts, call_parts};
@@ -69,7 +70,13 @@ fn hand_in<St: Store>(
         return false;
     }
     let items = function.earlier.as_slice();
-    fill_each(store, frame, items, lists.bindings, Reading::Either(occurrences))
+    fill_each(
+        store,
+        frame,
+        items,
+        lists.bindings,
+        Reading::Either(occurrences),
+    )
 }
 
 /// The body of a call at its start, over a frame that is filled with what the call hands in; None where

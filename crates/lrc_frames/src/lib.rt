@@ -6,6 +6,7 @@
 #![tactic(auto)]
 
 mod beginning;
+mod bindings;
 mod body;
 mod filling;
 mod lists;

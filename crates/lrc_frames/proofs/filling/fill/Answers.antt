@@ -49,7 +49,7 @@ read-requires g c =
     let left = left_there w.0 w.1 s c.numbers.frame w.2 w.3 numbers i c.numbers.rest.0 c.args.reading w.4 w.5 c.numbers-test.true (c.numbers.invariant.left w.0 w.1 w.2 w.3 w.4 w.5 w.6) in
     let front = c.in-Some.ensures.front (map datum_cell left.more) left.fills.list in
     let now = next w.0 w.1 s t c.front_of.ensures.reads.stays.lasts.known c.numbers.frame w.2 (get_or numbers i 0) (drop (i + 1) numbers) c.numbers.rest.0 c.args.reading c.in-Some.front
-        left.run left.later left.more left.fills front in
+    left.run left.later left.more left.fills front in
     (now.item, now.datum, now.read, now.stands, now.spelled)
 
 pub bounds-frame-number : goal.bounds-frame-number
