@@ -1,5 +1,5 @@
 -- A call is read, has no result where it visits no node or does not have the form of one, and hands in what its visit takes.
-use Rattle.std.proofs.Common.{◌≡◌, ℕ, ◌+◌, ◌-◌, ◌<◌, ◌≤◌, Bool, true, false, ◌&&◌, ◌==◌, cond, List, [], ◌∷◌, ◌++◌, length, map, Contains, Option, Some, None, IsTrue, slice_get, get_or, ◌⊎◌, inl, inr, refl, sym, ap, ◌∙◌, subst, arith}
+use Rattle.std.proofs.Common.{◌≡◌, ℕ, ◌+◌, ◌-◌, ◌≤◌, Bool, true, false, ◌&&◌, ◌==◌, cond, List, length, map, Contains, Option, Some, None, slice_get, get_or, refl, sym, ap, ◌∙◌, subst, arith}
 use Rattle.std.specs.Prelude.{IfSome, nat_le, flat_map, option_map, option_and_then}
 use Rattle.std.specs.List.{range_with_len}
 use Rattle.std.proofs.lemmas.Bool.{and_parts, ne_eqb, eq-eqb, le-leb, leb-true}
@@ -18,10 +18,9 @@ use Rattle.lrc_plan_meaning.specs.declared.Bound.TheVariants as b
 use Rattle.lrc_plan_meaning.specs.Items.{is_among, visits_of, attrs_of_visit, values_of_visit, makes}
 use Rattle.lrc_plan_meaning.specs.Sequences.{segment}
 use Rattle.lrc_plan_meaning.specs.Bindings.{items_of, gained, used, binding}
-use Rattle.lrc_visit_meaning.specs.Values as plain
-use Rattle.lrc_visit_meaning.specs.Values.{Datum, value, Data, data_list, Call, Result}
+use Rattle.lrc_visit_meaning.specs.Values.{Datum, value, data_list, Call, Result}
 use Rattle.lrc_visit_meaning.specs.Visits.{walk, are_of_kinds, are_of_lengths, is_call, is_visited, held_at_start, result_of, step, visit_of_node, visit_of_tree, one_visit}
-use Rattle.lrc_store.specs.Cells.{CellTree, pair}
+use Rattle.lrc_store.specs.Cells.{CellTree}
 use Rattle.lrc_store.specs.Standing.{Standing, Stands, meant}
 use Rattle.lrc_store.specs.Words.{Keeps}
 use Rattle.lrc_store.specs.declared.cells.Handle.{Handle}
@@ -40,8 +39,8 @@ use Rattle.lrc_functions.proofs.NumberLemmas.{counted}
 use Rattle.lrc_frames.specs.declared.body.Body.{Body}
 use Rattle.lrc_frames.specs.declared.nodes.Node.{Node}
 use Rattle.lrc_frames.specs.declared.reading.Reading.TheVariants as reading
-use Rattle.lrc_frames.specs.Frames.{Run, RunsAt, gaining, at_start}
-use Rattle.lrc_frames.specs.Lists.{IsReadAs, Fills, FilledIf, FillsEach, FilledEachIf}
+use Rattle.lrc_frames.specs.Frames.{Run, RunsAt, gaining}
+use Rattle.lrc_frames.specs.Lists.{IsReadAs, Fills, FillsEach, FilledEachIf}
 use Rattle.lrc_frames.specs.Nodes.{IsNode, HasNode}
 use Rattle.lrc_frames.specs.Steps.{Begins}
 use Rattle.lrc_frames.specs.Beginning.{bare, IsOfNode, HandsIn, HandedIf}

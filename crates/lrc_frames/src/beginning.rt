@@ -25,7 +25,8 @@ use lrc_plan::{Plan, visits_of};
 use lrc_store::{Handle, Store};
 
 /// The production of the node that a call visits; none where the tree is no node of a production that
-/// is there, the visit is none of its left side's, or a child is missing or of another kind.
+/// is there, the visit is none of its left side's, or the children are not as many as declared, or not
+/// of their kinds.
 fn visited_production<St: Store>(
     store: &mut St,
     plan: &Plan,

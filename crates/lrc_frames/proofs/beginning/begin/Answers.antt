@@ -1,18 +1,14 @@
-use Rattle.std.proofs.Common.{◌≡◌, ℕ, Bool, true, false, List, length, slice_get, Some, None, subst, refl, sym, ◌∙◌}
+use Rattle.std.proofs.Common.{◌≡◌, ℕ, slice_get, subst, refl, sym}
 use Rattle.std.specs.Prelude.{IfSome}
 use Rattle.std.proofs.lemmas.Option.{slice_get_within}
-use Rattle.lrc_base.specs.declared.grammar.Production.{Production}
 use Rattle.lrc_grammar.specs.Grammar.{grammar_of}
-use Rattle.lrc_code.specs.Forms.{tree_cell}
-use Rattle.lrc_call_meaning.specs.Forms.{call_form}
 use Rattle.lrc_store.proofs.Lasting.{reads-then}
 use Rattle.lrc_plan.specs.Planned.{IsVisit}
 use Rattle.lrc_plan.proofs.ReadLemmas.{if_some}
 use Rattle.lrc_functions.specs.Functions.{function_of}
-use Rattle.lrc_functions.specs.declared.functions.Functions.{Functions}
 use Rattle.lrc_frames.specs.declared.body.Body.{Body}
-use Rattle.lrc_frames.specs.Beginning.{IsOfNode, IsOfNodeIf, HandedIf}
-use Rattle.lrc_frames.proofs.BeginLemmas.{is_call_cell, HasRead, call_read, hands_in, has_room, no_body, a_body}
+use Rattle.lrc_frames.specs.Beginning.{IsOfNodeIf, HandedIf}
+use Rattle.lrc_frames.proofs.BeginLemmas.{is_call_cell, call_read, hands_in, has_room, no_body, a_body}
 use Rattle.lrc_frames.proofs.beginning.begin.Goals as goal
 
 pub call_parts-parts-requires-clause-call : goal.call_parts-parts-requires-clause-call

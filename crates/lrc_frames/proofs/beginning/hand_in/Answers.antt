@@ -1,4 +1,4 @@
-use Rattle.std.proofs.Common.{◌≡◌, subst, true, false}
+use Rattle.std.proofs.Common.{subst}
 use Rattle.lrc_store.proofs.Lasting.{reads-then}
 use Rattle.lrc_frames.specs.Frames.{gaining}
 use Rattle.lrc_frames.specs.Lists.{FilledIf}

@@ -1,6 +1,5 @@
-use Rattle.std.proofs.Common.{◌≡◌, List, ◌+◌, ◌<◌, ◌≤◌, length, arith, sym, ap, ◌∙◌}
+use Rattle.std.proofs.Common.{List, arith, sym, ap, ◌∙◌}
 use Rattle.lrc_base.specs.declared.grammar.Kid.{Kid}
-use Rattle.lrc_base.specs.declared.grammar.Production.{Production}
 use Rattle.lrc_order_meaning.specs.declared.Partition.{Partition}
 use Rattle.lrc_plan_meaning.specs.Items.{visits_of}
 use Rattle.lrc_visit_meaning.specs.Visits.{are_of_kinds}

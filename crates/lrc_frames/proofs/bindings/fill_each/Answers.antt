@@ -1,11 +1,10 @@
-use Rattle.std.proofs.Common.{◌≡◌, ℕ, ◌+◌, List, [], ◌∷◌, length, map, drop, subst, sym, ◌∙◌, arith, false, true, Bool}
+use Rattle.std.proofs.Common.{ℕ, ◌+◌, List, ◌∷◌, map, drop, subst, sym, ◌∙◌, arith}
 use Rattle.std.proofs.lemmas.List.{drop_all}
 use Rattle.lrc_visit_meaning.specs.Values.{data_list}
-use Rattle.lrc_store.specs.Standing.{Standing}
 use Rattle.lrc_store.proofs.Lasting.{reads-then}
 use Rattle.lrc_call_meaning.specs.Forms.{binding_cell}
 use Rattle.lrc_frames.specs.Lists.{HasFront, FilledIf}
-use Rattle.lrc_frames.proofs.EachLemmas.{LeftEach, list_there, Now, now_left, row_short, behind, no_row, each_ends}
+use Rattle.lrc_frames.proofs.EachLemmas.{LeftEach, list_there, now_left, row_short, behind, no_row, each_ends}
 use Rattle.lrc_frames.proofs.bindings.fill_each.Goals as goal
 
 pub front_of-requires : goal.front_of-requires

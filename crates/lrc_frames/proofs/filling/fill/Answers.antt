@@ -1,9 +1,8 @@
-use Rattle.std.proofs.Common.{◌≡◌, ℕ, ◌+◌, List, [], ◌∷◌, map, drop, get_or, subst, sym, refl, ◌∙◌, arith}
+use Rattle.std.proofs.Common.{ℕ, ◌+◌, List, map, drop, get_or, subst, refl, ◌∙◌, arith}
 use Rattle.std.proofs.lemmas.List.{drop_all}
-use Rattle.lrc_store.specs.Standing.{Standing}
 use Rattle.lrc_store.proofs.Lasting.{reads-then}
 use Rattle.lrc_call_meaning.specs.Forms.{datum_cell}
-use Rattle.lrc_frames.specs.Lists.{HasFront, FilledIf}
+use Rattle.lrc_frames.specs.Lists.{HasFront}
 use Rattle.lrc_frames.proofs.ReadLemmas.{reads_same}
 use Rattle.lrc_frames.proofs.FillLemmas.{Left, all_left, left_there, next, left_behind, ends_early, ends}
 use Rattle.lrc_frames.proofs.filling.fill.Goals as goal

@@ -1,8 +1,6 @@
-use Rattle.std.proofs.Common.{◌∙◌}
-use Rattle.lrc_code.specs.declared.calls.ResultParts.{ResultParts}
 use Rattle.lrc_store.proofs.Lasting.{reads-then}
 use Rattle.lrc_frames.specs.Frames.{gaining}
-use Rattle.lrc_frames.proofs.TakeLemmas.{is_result, HasRead, result_read, values, later, value_data, binding_data, takes_values, takes_bindings, takes_all}
+use Rattle.lrc_frames.proofs.TakeLemmas.{is_result, result_read, values, later, value_data, binding_data, takes_values, takes_bindings, takes_all}
 use Rattle.lrc_frames.proofs.taking.take_result.Goals as goal
 
 pub result_parts-parts-requires-clause-outcome : goal.result_parts-parts-requires-clause-outcome
