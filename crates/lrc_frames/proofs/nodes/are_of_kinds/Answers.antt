@@ -1,4 +1,4 @@
-use Rattle.std.proofs.Common.{◌+◌, List, drop, subst, sym, ◌∙◌, arith}
+use Rattle.std.proofs.Common.{◌+◌, List, drop, subst, ◌∙◌, arith}
 use Rattle.std.proofs.lemmas.List.{drop_all}
 use Rattle.lrc_base.specs.declared.grammar.Kid.{Kid}
 use Rattle.lrc_store.proofs.Lasting.{reads-then}
