@@ -1,5 +1,5 @@
 -- What is in the bindings of a list goes into a frame, one binding after another.
-use Rattle.std.proofs.Common.{◌≡◌, ℕ, suc, ◌+◌, ◌<◌, ◌≤◌, Bool, true, false, not, ◌&&◌, ◌==◌, List, [], ◌∷◌, ◌++◌, length, map, drop, drop-cons, get_or, Contains, Option, Some, None, refl, sym, ap, ◌∙◌, subst, arith}
+use Rattle.std.proofs.Common.{◌≡◌, ℕ, suc, ◌+◌, ◌<◌, Bool, true, false, not, ◌&&◌, List, [], ◌∷◌, length, map, drop, drop-cons, get_or, Option, Some, None, refl, sym, ap, ◌∙◌, subst, arith}
 use Rattle.std.specs.Prelude.{flat_map}
 use Rattle.std.specs.Option.{is_some}
 use Rattle.std.specs.List.{AllByRecursion}
@@ -7,10 +7,10 @@ use Rattle.std.proofs.lemmas.Bool.{ne_eqb, eq-eqb}
 use Rattle.lrc_meaning.specs.Grammar.{Grammar}
 use Rattle.lrc_order_meaning.specs.declared.Partition.{Partition}
 use Rattle.lrc_plan_meaning.specs.declared.Bound.{Bound}
-use Rattle.lrc_visit_meaning.specs.Values.{Datum, Data, no_data, data_then, data_list}
+use Rattle.lrc_visit_meaning.specs.Values.{Data, no_data, data_then, data_list}
 use Rattle.lrc_visit_meaning.specs.Visits.{are_of_lengths}
 use Rattle.lrc_store.specs.Cells.{CellTree}
-use Rattle.lrc_store.specs.Standing.{Standing, Stands}
+use Rattle.lrc_store.specs.Standing.{Standing}
 use Rattle.lrc_store.specs.Words.{Keeps}
 use Rattle.lrc_code.specs.Forms.{list_cell}
 use Rattle.lrc_call_meaning.specs.Forms.{datum_cell, data_cells, binding_cell, bindings_cell}
@@ -21,8 +21,9 @@ use Rattle.lrc_frames.specs.declared.body.Body.{Body}
 use Rattle.lrc_frames.specs.declared.lists.Front.{Front}
 use Rattle.lrc_frames.specs.declared.reading.Reading.{Reading}
 use Rattle.lrc_frames.specs.Frames.{Run, RunsAt, gaining}
-use Rattle.lrc_frames.specs.Lists.{IsFront, HasFront, Fills, FilledIf, FillsEach, FilledEachIf}
+use Rattle.lrc_frames.specs.Lists.{IsFront, HasFront, Fills, FillsEach, FilledEachIf}
 use Rattle.lrc_frames.proofs.FrameLemmas.{runs_last}
+use Rattle.lrc_frames.proofs.ReadLemmas.{cons_first, cons_rest}
 use Rattle.lrc_frames.proofs.FillLemmas.{gaining_none, gaining_then}
 
 -- ---- a binding as a list of data
@@ -34,12 +35,6 @@ listed_cells (data_then d ds) = ap (λ (cells : List CellTree). datum_cell d ∷
 listed_spelled : (ds : Data) → AreSpelledData ds → AllByRecursion IsSpelledDatum (data_list ds)
 listed_spelled no_data h = tt
 listed_spelled (data_then d ds) h = (h.0, listed_spelled ds h.1)
-
-first_cell : (c d : CellTree) (cs ds : List CellTree) → c ∷ cs ≡ d ∷ ds → c ≡ d
-first_cell c d cs ds e = cc
-
-other_cells : (c d : CellTree) (cs ds : List CellTree) → c ∷ cs ≡ d ∷ ds → cs ≡ ds
-other_cells c d cs ds e = cc
 
 module _ (g : Grammar) (parts : List Partition) where
   -- after some of the bindings were put, these lists of numbers and this list are left of the visits
@@ -68,12 +63,6 @@ module _ (g : Grammar) (parts : List Partition) where
       (drop-cons lists i numbers less ∙ ap (λ (ns : List ℕ). ns ∷ drop (suc i) lists) (sym is) ∙ ap (λ (k : ℕ). numbers ∷ drop k lists) next) left
 
   module _ (s t : Standing) (keeps : Keeps s t) (frame : List Val) (body : Body) (numbers : List ℕ) (lists : List (List ℕ)) (handle : ℕ) (reading : Reading) (items : ℕ → List Bound) where
-    same_numbers : (ns : List ℕ) (nss : List (List ℕ)) → numbers ∷ lists ≡ ns ∷ nss → numbers ≡ ns
-    same_numbers ns nss e = cc
-
-    same_lists : (ns : List ℕ) (nss : List (List ℕ)) → numbers ∷ lists ≡ ns ∷ nss → lists ≡ nss
-    same_lists ns nss e = cc
-
     module _ (front : Front) where
       -- what is left of the next binding
       pub record Now (run : Run) (later : List ℕ) (more : List Data) : Type 0 where
@@ -99,9 +88,9 @@ module _ (g : Grammar) (parts : List Partition) where
             rows_are = refl;
             fills = record {
               runs = runs_last g parts s t frame body run keeps h.runs;
-              numbered = same_numbers (map (number g.sorts parts run.production) (items u)) (map (λ w. map (number g.sorts parts run.production) (items w)) us) h.numbered;
+              numbered = cons_first numbers (map (number g.sorts parts run.production) (items u)) lists (map (λ w. map (number g.sorts parts run.production) (items w)) us) h.numbered;
               listed = h.listed u;
-              list = f.item ∙ ap Some (sym (first_cell (binding_cell ds) f.first (map binding_cell rows) f.others f.all)) ∙ ap (λ (cells : List CellTree). Some (list_cell cells)) (listed_cells ds);
+              list = f.item ∙ ap Some (sym (cons_first (binding_cell ds) f.first (map binding_cell rows) f.others f.all)) ∙ ap (λ (cells : List CellTree). Some (list_cell cells)) (listed_cells ds);
               spelled = listed_spelled ds h.spelled.0;
               read = λ x d c k. h.read u x d c;
             };
@@ -150,10 +139,10 @@ module _ (g : Grammar) (parts : List Partition) where
               more = others;
               fills = record {
                 runs = runs;
-                numbered = same_lists (map (number g.sorts parts run.production) (items v)) (map (λ w. map (number g.sorts parts run.production) (items w)) vs) h.numbered;
+                numbered = cons_rest numbers (map (number g.sorts parts run.production) (items v)) lists (map (λ w. map (number g.sorts parts run.production) (items w)) vs) h.numbered;
                 listed = h.listed;
                 list = keeps_on front.rest.0 (bindings_cell others)
-                    (f.rest ∙ ap (λ (cells : List CellTree). Some (list_cell cells)) (sym (other_cells (binding_cell ds) f.first (map binding_cell others) f.others f.all)));
+                    (f.rest ∙ ap (λ (cells : List CellTree). Some (list_cell cells)) (sym (cons_rest (binding_cell ds) f.first (map binding_cell others) f.others f.all)));
                 spelled = h.spelled.1;
                 read = h.read;
               };

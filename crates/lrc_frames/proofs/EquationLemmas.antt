@@ -1,12 +1,12 @@
 -- The equation of an occurrence: it is found by its number, it fits the node, and all that it reads is shown.
-use Rattle.std.proofs.Common.{◌≡◌, ℕ, suc, ◌+◌, ◌-◌, ◌<◌, ◌≤◌, Bool, true, false, ◌&&◌, cond, IsTrue, List, [], ◌∷◌, map, length, Contains, Option, Some, None, IsSome, slice_get, get_or, refl, sym, ap, ◌∙◌, subst, arith, inl, inr}
-use Rattle.std.specs.Prelude.{find, ◌==◌, flat_map}
+use Rattle.std.proofs.Common.{◌≡◌, ℕ, suc, ◌+◌, ◌<◌, ◌≤◌, Bool, true, false, ◌&&◌, cond, IsTrue, List, [], ◌∷◌, length, Contains, Option, Some, None, IsSome, slice_get, get_or, refl, sym, ap, ◌∙◌, subst, arith}
+use Rattle.std.specs.Prelude.{find, ◌==◌}
 use Rattle.std.specs.Option.{option_map_or, option_and_then}
-use Rattle.std.specs.List.{range_with_len, position_from}
+use Rattle.std.specs.List.{position_from}
 use Rattle.std.proofs.lemmas.Bool.{and_parts, false≢true}
 use Rattle.std.proofs.lemmas.Option.{none-some, same_Some, slice_get-get_or, slice_get_within, get_or_from_slice_get}
 use Rattle.std.proofs.lemmas.List.FromFn.{get_or-map-range_with_len, length-map-range_with_len}
-use Rattle.std.proofs.lemmas.List.Elements.{All-contains, Contains-append_cases}
+use Rattle.std.proofs.lemmas.List.Elements.{All-contains}
 use Rattle.lrc_base.specs.declared.expr.Op.{Op}
 use Rattle.lrc_base.specs.declared.expr.Op.TheVariants as o
 use Rattle.lrc_base.specs.declared.grammar.Kind.{Kind}
@@ -24,12 +24,9 @@ use Rattle.lrc_meaning.specs.Signature.{signed_occurrences}
 use Rattle.lrc_meaning.proofs.ListLemmas.{list_all-at}
 use Rattle.lrc_meaning.proofs.SignatureLemmas.{signed_count}
 use Rattle.lrc_order_meaning.specs.declared.Partition.{Partition}
-use Rattle.lrc_order_meaning.specs.Needs.{symbols_of}
-use Rattle.lrc_order_meaning.proofs.MemberLemmas.{member_of_map, member_of_flat, member_of_range}
 use Rattle.lrc_plan_meaning.specs.declared.Action.TheVariants as a
 use Rattle.lrc_plan_meaning.specs.declared.Bound.TheVariants as b
-use Rattle.lrc_plan_meaning.specs.Items.{visits_of, symbol_at, needs}
-use Rattle.lrc_plan_meaning.specs.Bindings.{bindings_at, items_of}
+use Rattle.lrc_plan_meaning.specs.Items.{needs}
 use Rattle.lrc_visit_meaning.specs.Values.{value_in}
 use Rattle.lrc_visit_meaning.specs.Visits.{is_of_kind, are_of_kinds, equation_of, values_in}
 use Rattle.lrc_laws.proofs.FuelLemmas.{mapped, bound_by, where_true}
@@ -43,6 +40,7 @@ use Rattle.lrc_functions.specs.Functions.{operation_of}
 use Rattle.lrc_frames.specs.declared.body.Body.{Body}
 use Rattle.lrc_frames.specs.Frames.{Run}
 use Rattle.lrc_frames.specs.Writing.{CanEvaluate}
+use Rattle.lrc_frames.proofs.ItemLemmas.{occurrence_below}
 
 -- ---- an equation by its number
 
@@ -181,29 +179,6 @@ kinds-count prods none (kid ∷ kids) h = absurd (false≢true h)
 kinds-count prods (more t ts) [] h = absurd (false≢true h)
 kinds-count prods (more t ts) (kid ∷ kids) h = let rest : length (in_order ts) ≡ length kids = kinds-count prods ts kids (and_parts (is_of_kind prods t kid.kind) (are_of_kinds prods ts kids) h).1 in omega arith
 
-same-value : (i j : ℕ) → b.Value i ≡ b.Value j → i ≡ j
-same-value i j e = cc
-
-no-value : (s i j x : ℕ) → b.Kid s i j ≡ b.Value x → ⊥
-no-value s i j x e = cc
-
--- an occurrence that is listed is there
-value-within : (sorts : List Sort) (parts : List Partition) (p : Production) (i : ℕ) → Contains (items_of sorts parts p) (b.Value i) → i < length (occurrences_of sorts p)
-value-within sorts parts p i listed =
-    elim (Contains-append_cases (map b.Value (range_with_len 0 (length (occurrences_of sorts p)))) (flat_map (λ s. bindings_at s (visits_of parts (symbol_at sorts p s).sort)) (range_with_len 0 (length (symbols_of sorts p)))) (b.Value i) listed) [
-      | inl own ↦
-          let found = member_of_map b.Value (range_with_len 0 (length (occurrences_of sorts p))) (b.Value i) own in
-          let within = (member_of_range 0 (length (occurrences_of sorts p)) found.0 found.1).1 in
-          let same = same-value found.0 i found.2 in
-          omega (arith, within, same)
-      | inr bound ↦
-          let symbol = member_of_flat (λ s. bindings_at s (visits_of parts (symbol_at sorts p s).sort)) (range_with_len 0 (length (symbols_of sorts p))) (b.Value i) bound in
-          let n = visits_of parts (symbol_at sorts p symbol.0).sort in
-          let earlier = member_of_flat (λ u. map (b.Kid symbol.0 u) (range_with_len (u + 1) (n - u))) (range_with_len 1 n) (b.Value i) symbol.2 in
-          let later = member_of_map (b.Kid symbol.0 earlier.0) (range_with_len (earlier.0 + 1) (n - earlier.0)) (b.Value i) earlier.2 in
-          absurd (no-value symbol.0 earlier.0 later.0 i later.2)
-    ]
-
 -- ---- what is read off lists
 
 module _ {X : Type 0} (xs read : List X) (i : ℕ) (x : X) (there : slice_get xs i ≡ Some x) (same : read ≡ xs) where
@@ -235,7 +210,7 @@ module _ (g : Grammar) (parts : List Partition) (formed : IsTrue (is_well_formed
         let needed = read_needed r.production.equations e x i there.0 there.1 c in
         let available = All-contains (Contains r.available) (needs g.sorts parts r.production (a.Eval x)) (b.Value i) can.needed needed in
         let shown = can.runs.holds (b.Value i) available in
-        let less = value-within g.sorts parts r.production i (can.runs.listed (b.Value i) available) in
+        let less = occurrence_below g.sorts parts r.production i (can.runs.listed (b.Value i) available) in
         let total = length (occurrences_of g.sorts r.production) in
         let value_at = λ (y : ℕ). value_in (r.held (b.Value y)) in
         let size = length-map-range_with_len value_at 0 total in

@@ -1,12 +1,12 @@
 -- What the evaluation of an occurrence answers, by what the evaluation of its equation answers.
-use Rattle.std.proofs.Common.{◌≡◌, ℕ, ◌<◌, Bool, true, false, IsTrue, List, [], ◌∷◌, ◌++◌, map, set, length, Contains, Option, Some, None, refl, sym, ap, ◌∙◌, subst}
+use Rattle.std.proofs.Common.{◌≡◌, ℕ, ◌<◌, Bool, true, false, List, [], ◌∷◌, ◌++◌, map, set, length, Contains, Option, Some, None, refl, sym, ap, ◌∙◌, subst}
 use Rattle.std.specs.Prelude.{Result, Ok, Err, IsErr}
 use Rattle.std.specs.Option.{option_map_or, option_and_then}
 use Rattle.std.proofs.lemmas.Bool.{false≢true}
 use Rattle.lrc_base.specs.declared.grammar.Equation.{Equation}
 use Rattle.lrc_meaning.specs.Tree.{Tree}
 use Rattle.lrc_meaning.specs.Expression.{Expression, expression, value_of}
-use Rattle.lrc_meaning.specs.Grammar.{Grammar, is_well_formed}
+use Rattle.lrc_meaning.specs.Grammar.{Grammar}
 use Rattle.lrc_order_meaning.specs.declared.Partition.{Partition}
 use Rattle.lrc_plan_meaning.specs.declared.Bound.TheVariants as b
 use Rattle.lrc_plan_meaning.specs.Bindings.{items_of}
@@ -14,7 +14,6 @@ use Rattle.lrc_plan.proofs.ListedLemmas.{value_listed}
 use Rattle.lrc_visit_meaning.specs.Visits.{leaf_in, equation_of, values_in, evaluated}
 use Rattle.lrc_visit_meaning.specs.Demand.{built, equation_met, built_in}
 use Rattle.lrc_call_meaning.specs.Reached.{met_cell, cells_of}
-use Rattle.lrc_laws.proofs.FormedLemmas.{production_right}
 use Rattle.lrc_store.specs.Cells.{CellTree, parts as parts_of, IsWithin}
 use Rattle.lrc_store.specs.Standing.{Standing, Told}
 use Rattle.lrc_store.specs.Words.{Adds, LacksOne}
@@ -41,11 +40,11 @@ module _ (g : Grammar) (parts : List Partition) (s : Standing) (frame : List Val
   abbrev cells : List CellTree
   cells = evaluation_cells g parts r x
 
-  listed : IsTrue (is_well_formed g) → Contains (items_of g.sorts parts r.production) (b.Value x)
-  listed formed = value_listed g.sorts parts g.prods r.production (production_right g formed body.production r.production can.runs.there) x can.occurrence
+  listed : Contains (items_of g.sorts parts r.production) (b.Value x)
+  listed = value_listed g.sorts parts r.production x can.occurrence
 
-  pub occurrence-within : IsTrue (is_well_formed g) → x < length frame
-  occurrence-within formed = within_frame g parts s body r frame (b.Value x) can.runs.room (listed formed)
+  pub occurrence-within : x < length frame
+  occurrence-within = within_frame g parts s body r frame (b.Value x) can.runs.room listed
 
   -- an occurrence without an equation has no value
   pub evaluates-nothing : equation_of r.production x ≡ None → Evaluates g parts s s frame body r x (Ok false)
@@ -85,15 +84,15 @@ module _ (g : Grammar) (parts : List Partition) (s : Standing) (frame : List Val
       evaluates-full full (Err f) is h =
           record { adds = adds (Err full) h; ok = tt; full = subst (LacksOne t) cells-are (h (inputs g body r) there.given).full }
 
-      pub evaluates-some : IsTrue (is_well_formed g) → (found : Option Val) (value : Val) → found ≡ Some value → Answers (Ok found) → Evaluates g parts s t (set frame x value) body r x (Ok true)
-      evaluates-some formed found value is h =
+      pub evaluates-some : (found : Option Val) (value : Val) → found ≡ Some value → Answers (Ok found) → Evaluates g parts s t (set frame x value) body r x (Ok true)
+      evaluates-some found value is h =
           let made = evaluates-at s t (inputs g body r) right found (Some value) is (h (inputs g body r) there.given) in
           record {
             adds = adds (Ok found) h;
             ok = (
               made.found.0,
               value-is ∙ made.found.1,
-              runs_evaluated g parts t body r frame x value made.found.0 (listed formed) made.found.2 (runs_last g parts s t frame body r made.adds.gains.lasts.known can.runs),
+              runs_evaluated g parts t body r frame x value made.found.0 listed made.found.2 (runs_last g parts s t frame body r made.adds.gains.lasts.known can.runs),
               subst (λ (cs : List CellTree). Told t.seen (IsWithin cs)) cells-are made.seen,
             );
             full = tt;

@@ -1,20 +1,16 @@
 -- Items of a list go into a frame one after another: what is left to be put, from the first to behind the last.
-use Rattle.std.proofs.Common.{◌≡◌, ◌≢◌, ℕ, suc, ◌+◌, ◌<◌, ◌≤◌, Bool, true, false, not, List, [], ◌∷◌, ◌++◌, length, map, set, Contains, Option, Some, None, drop, drop-cons, get_or, refl, sym, ap, ◌∙◌, subst, arith, append_assoc}
+use Rattle.std.proofs.Common.{◌≡◌, ℕ, suc, ◌+◌, ◌<◌, Bool, true, false, not, List, [], ◌∷◌, ◌++◌, length, map, set, Option, Some, None, drop, drop-cons, get_or, refl, sym, ap, ◌∙◌, subst, arith, append_assoc}
 use Rattle.std.specs.Option.{is_some}
-use Rattle.std.specs.List.{AllByRecursion}
 use Rattle.std.proofs.lemmas.List.{append-nil}
-use Rattle.lrc_meaning.specs.Tree.{node}
 use Rattle.lrc_meaning.specs.Grammar.{Grammar}
 use Rattle.lrc_order_meaning.specs.declared.Partition.{Partition}
 use Rattle.lrc_order_meaning.proofs.MemberLemmas.{member_first, member_later}
 use Rattle.lrc_plan_meaning.specs.declared.Bound.{Bound}
-use Rattle.lrc_plan_meaning.specs.Bindings.{items_of}
 use Rattle.lrc_visit_meaning.specs.Values.{Datum}
 use Rattle.lrc_visit_meaning.specs.Visits.{Held, holding}
 use Rattle.lrc_store.specs.Cells.{CellTree}
 use Rattle.lrc_store.specs.Standing.{Standing, Stands}
 use Rattle.lrc_store.specs.Words.{Keeps}
-use Rattle.lrc_store.specs.declared.cells.Handle.{Handle}
 use Rattle.lrc_code.specs.Forms.{list_cell}
 use Rattle.lrc_call_meaning.specs.Forms.{datum_cell}
 use Rattle.lrc_call_meaning.specs.Spelled.{IsSpelledDatum}
@@ -25,6 +21,7 @@ use Rattle.lrc_frames.specs.declared.lists.Front.{Front}
 use Rattle.lrc_frames.specs.declared.reading.Reading.{Reading}
 use Rattle.lrc_frames.specs.Frames.{Shows, Run, RunsAt, gaining}
 use Rattle.lrc_frames.specs.Lists.{IsFront, HasFront, IsReadAs, Fills, FilledIf}
+use Rattle.lrc_frames.proofs.ReadLemmas.{cons_first, cons_rest}
 use Rattle.lrc_frames.proofs.FrameLemmas.{runs_last, runs_more, within_frame}
 
 -- ---- runs that gain items
@@ -88,28 +85,16 @@ module _ (g : Grammar) (parts : List Partition) where
       pub spelled : IsSpelledDatum datum
       pub within : n < length frame
 
-    same_number : (m : ℕ) (ms : List ℕ) → n ∷ ns ≡ m ∷ ms → n ≡ m
-    same_number m ms e = cc
-
-    same_numbers : (m : ℕ) (ms : List ℕ) → n ∷ ns ≡ m ∷ ms → ns ≡ ms
-    same_numbers m ms e = cc
-
-    same_cell : (c e : CellTree) (cs es : List CellTree) → c ∷ cs ≡ e ∷ es → c ≡ e
-    same_cell c e cs es h = cc
-
-    same_cells : (c e : CellTree) (cs es : List CellTree) → c ∷ cs ≡ e ∷ es → cs ≡ es
-    same_cells c e cs es h = cc
-
     pub next : (run : Run) (later : List Bound) (more : List Datum) → Fills g parts s frame body run (n ∷ ns) list reading later more
         → IsFront t (map datum_cell more) front → Next run later more
     next run [] more h f = absurd (let e = h.numbered in cc)
     next run (x ∷ xs) [] h f = absurd (let e = f.all in cc)
     next run (x ∷ xs) (d ∷ ds) h f =
-        let is : n ≡ number g.sorts parts run.production x = same_number (number g.sorts parts run.production x) (map (number g.sorts parts run.production) xs) h.numbered in record {
+        let is : n ≡ number g.sorts parts run.production x = cons_first n (number g.sorts parts run.production x) ns (map (number g.sorts parts run.production) xs) h.numbered in record {
           item = x;
           datum = d;
           read = subst (λ (m : ℕ). IsReadAs reading m x d) (sym is) (h.read x d (member_first x xs) (member_first d ds));
-          stands = f.item ∙ ap Some (sym (same_cell (datum_cell d) f.first (map datum_cell ds) f.others f.all));
+          stands = f.item ∙ ap Some (sym (cons_first (datum_cell d) f.first (map datum_cell ds) f.others f.all));
           spelled = h.spelled.0;
           within = subst (λ (m : ℕ). m < length frame) (sym is) (within_frame g parts s body run frame x h.runs.room (h.listed x (member_first x xs)));
         }
@@ -124,7 +109,7 @@ module _ (g : Grammar) (parts : List Partition) where
       put r run items (x ∷ xs) given [] h whole ahead f = absurd (let e = f.all in cc)
       put r run items (x ∷ xs) given (d ∷ ds) h whole ahead f =
           let now = next run (x ∷ xs) (d ∷ ds) h f in
-          let is : n ≡ number g.sorts parts run.production x = same_number (number g.sorts parts run.production x) (map (number g.sorts parts run.production) xs) h.numbered in
+          let is : n ≡ number g.sorts parts run.production x = cons_first n (number g.sorts parts run.production x) ns (map (number g.sorts parts run.production) xs) h.numbered in
           let lasts : Keeps s u = λ handle cell k. keeps_on handle cell (keeps handle cell k) in
           record {
             run = gaining run (x ∷ []) (d ∷ []);
@@ -133,10 +118,10 @@ module _ (g : Grammar) (parts : List Partition) where
             fills = record {
               runs = subst (λ (m : ℕ). RunsAt g parts u (set frame m shown) body (gaining run (x ∷ []) (d ∷ []))) (sym is)
                   (runs_more g parts u body run frame x d shown (h.listed x (member_first x xs)) (shows x d now.read now.stands now.spelled) (runs_last g parts s u frame body run lasts h.runs));
-              numbered = same_numbers (number g.sorts parts run.production x) (map (number g.sorts parts run.production) xs) h.numbered;
+              numbered = cons_rest n (number g.sorts parts run.production x) ns (map (number g.sorts parts run.production) xs) h.numbered;
               listed = λ y c. h.listed y (member_later x xs y c);
               list = keeps_on front.rest.0 (list_cell (map datum_cell ds))
-                  (f.rest ∙ ap (λ (cells : List CellTree). Some (list_cell cells)) (sym (same_cells (datum_cell d) f.first (map datum_cell ds) f.others f.all)));
+                  (f.rest ∙ ap (λ (cells : List CellTree). Some (list_cell cells)) (sym (cons_rest (datum_cell d) f.first (map datum_cell ds) f.others f.all)));
               spelled = h.spelled.1;
               read = λ y e c k. h.read y e (member_later x xs y c) (member_later d ds e k);
             };

@@ -5,6 +5,7 @@ pub mod ItemLemmas
 pub mod TakeLemmas
 pub mod NodeLemmas
 pub mod EachLemmas
+pub mod BeginLemmas
 pub mod MadeLemmas
 pub mod ShownLemmas
 pub mod EndLemmas

@@ -1,9 +1,7 @@
 -- What is read of the cells of trees: their kinds, and the nodes with their children.
 use Rattle.std.proofs.Common.{◌≡◌, ℕ, suc, ◌+◌, ◌-◌, ◌<◌, ◌≤◌, ℤ, Bool, true, false, not, ◌&&◌, List, [], ◌∷◌, length, drop, drop-cons, get_or, Option, Some, None, refl, sym, ap, ◌∙◌, subst, arith}
-use Rattle.std.specs.Prelude.{option_map, slice_get}
 use Rattle.std.specs.Option.{is_some}
 use Rattle.lrc_base.specs.declared.grammar.Kid.{Kid}
-use Rattle.lrc_base.specs.declared.grammar.Kind.{Kind}
 use Rattle.lrc_base.specs.declared.grammar.Kind.TheVariants as k
 use Rattle.lrc_base.specs.declared.grammar.Production.{Production}
 use Rattle.lrc_meaning.specs.Tree.{Tree, Trees, int, bool, name, node, none, more, kind_of}
@@ -17,9 +15,9 @@ use Rattle.lrc_code.specs.Forms.{list_cell, node_cell, tree_cell, kid_cells}
 use Rattle.lrc_eval.proofs.ValueLemmas.{number-tree, name-tag}
 use Rattle.lrc_plan.proofs.ReadLemmas.{found_at}
 use Rattle.lrc_frames.specs.declared.lists.Front.{Front}
-use Rattle.lrc_frames.specs.declared.nodes.Node.{Node}
 use Rattle.lrc_frames.specs.Lists.{IsFront, HasFront}
 use Rattle.lrc_frames.specs.Nodes.{IsNode, left_of}
+use Rattle.lrc_frames.proofs.ReadLemmas.{cons_first, cons_rest}
 
 -- ---- kinds
 
@@ -69,12 +67,6 @@ node_there s prods (node p trees) tag kids r e known le less =
 
 -- ---- children
 
-first_cell : (c d : CellTree) (cs ds : List CellTree) → c ∷ cs ≡ d ∷ ds → c ≡ d
-first_cell c d cs ds e = cc
-
-other_cells : (c d : CellTree) (cs ds : List CellTree) → c ∷ cs ≡ d ∷ ds → cs ≡ ds
-other_cells c d cs ds e = cc
-
 -- the next child, whose cell stands in front, and the others
 pub record NextKid (t : Standing) (ts : Trees) (front : Front) : Type 0 where
   pub kid : Tree
@@ -89,8 +81,8 @@ next_kid t (more u us) front f = record {
   kid = u;
   others = us;
   is = refl;
-  item = f.item ∙ ap Some (sym (first_cell (tree_cell u) f.first (kid_cells us) f.others f.all));
-  rest = f.rest ∙ ap (λ (cells : List CellTree). Some (list_cell cells)) (sym (other_cells (tree_cell u) f.first (kid_cells us) f.others f.all));
+  item = f.item ∙ ap Some (sym (cons_first (tree_cell u) f.first (kid_cells us) f.others f.all));
+  rest = f.rest ∙ ap (λ (cells : List CellTree). Some (list_cell cells)) (sym (cons_rest (tree_cell u) f.first (kid_cells us) f.others f.all));
 }
 
 -- after some of the children these are left, and they decide
@@ -122,12 +114,12 @@ module _ (s t u : Standing) (prods : List Production) (ts : Trees) (kids : List 
         ∙ ap (λ (vs : Trees). are_of_kinds prods vs (kid ∷ later)) now.is
         ∙ ap (λ (c : Bool). c && are_of_kinds prods now.others later) is
 
-    pub wrong_kid : is_of_kind prods now.kid kid.kind ≡ false → false ≡ are_of_kinds prods ts kids
-    wrong_kid is = sym (decided false is)
+    pub wrong_kid : (right : Bool) → right ≡ is_of_kind prods now.kid kid.kind → right ≡ false → false ≡ are_of_kinds prods ts kids
+    wrong_kid right told is = sym (decided false (sym told ∙ is))
 
-    pub kids_left : Keeps t u → is_of_kind prods now.kid kid.kind ≡ true → KidsLeft u prods ts kids front.rest.0 later
-    kids_left keeps is =
-        record { left = now.others; stands = keeps front.rest.0 (list_cell (kid_cells now.others)) now.rest; decide = decided true is }
+    pub kids_left : Keeps t u → (right : Bool) → right ≡ is_of_kind prods now.kid kid.kind → right ≡ true → KidsLeft u prods ts kids front.rest.0 later
+    kids_left keeps right told is =
+        record { left = now.others; stands = keeps front.rest.0 (list_cell (kid_cells now.others)) now.rest; decide = decided true (sym told ∙ is) }
 
 pub kids_end : (s t : Standing) (prods : List Production) (ts : Trees) (kids : List Kid) (list : ℕ) (left : KidsLeft s prods ts kids list []) (found : Option Front) (b : Bool) → is_some found ≡ not b
     → HasFront t (kid_cells left.left) found → b ≡ are_of_kinds prods ts kids

@@ -1,26 +1,23 @@
 -- What is read off the cells of lists and of the items of bindings.
-use Rattle.std.proofs.Common.{◌≡◌, ◌≢◌, ℕ, ℤ, Bool, true, false, cond, List, [], ◌∷◌, refl, sym, ap, ◌∙◌, subst, Some, nat_eq}
-use Rattle.lrc_meaning.specs.Tree.{Tree, bool}
-use Rattle.lrc_plan_meaning.specs.declared.Bound.{Bound}
-use Rattle.lrc_plan_meaning.specs.declared.Bound.TheVariants as b
-use Rattle.lrc_visit_meaning.specs.Values.{Datum, value, binding, Data, no_data, no_tree, value_in, binding_in}
+use Rattle.std.proofs.Common.{◌≡◌, ℕ, ℤ, Bool, true, false, List, [], ◌∷◌, refl, sym, ap, ◌∙◌, Some, nat_eq}
+use Rattle.lrc_meaning.specs.Tree.{Tree}
+use Rattle.lrc_visit_meaning.specs.Values.{Datum, value, binding, value_in, binding_in}
 use Rattle.lrc_store.specs.Cells.{CellTree, nil, number, pair}
-use Rattle.lrc_store.specs.Standing.{Standing, Stands, IsKnown, IsSound, meant}
+use Rattle.lrc_store.specs.Standing.{Standing, Stands, IsKnown, meant}
 use Rattle.lrc_store.specs.Words.{Reads}
 use Rattle.lrc_store.specs.declared.cells.Handle.{Handle}
-use Rattle.lrc_store.proofs.Known.{known-stands, stands-meant}
+use Rattle.lrc_store.proofs.Known.{known-stands}
 use Rattle.lrc_store.proofs.Lasting.{lasts-same}
 use Rattle.lrc_code.specs.Forms.{list_cell, tree_cell}
-use Rattle.lrc_call_meaning.specs.Forms.{datum_cell, binding_cell}
+use Rattle.lrc_call_meaning.specs.Forms.{datum_cell}
 use Rattle.lrc_call_meaning.specs.Decoding.{datum_in}
-use Rattle.lrc_call_meaning.specs.Spelled.{IsSpelled, IsSpelledDatum, AreSpelledData}
+use Rattle.lrc_call_meaning.specs.Spelled.{IsSpelledDatum}
 use Rattle.lrc_call_meaning.proofs.DecodingLemmas.{datum-back}
 use Rattle.lrc_eval.specs.declared.values.Val.{Val}
 use Rattle.lrc_eval.specs.declared.values.Val.TheVariants as v
 use Rattle.lrc_eval.specs.Values.{Means, IsMeant}
-use Rattle.lrc_frames.specs.declared.lists.Front.{Front}
-use Rattle.lrc_frames.specs.Frames.{MeansBinding, Shows}
-use Rattle.lrc_frames.specs.Lists.{IsFront, is_binding, IsValue, IsBinding}
+use Rattle.lrc_frames.specs.Frames.{MeansBinding}
+use Rattle.lrc_frames.specs.Lists.{IsFront, is_binding}
 
 -- a store that was not touched was only read
 pub reads_same : (s : Standing) → Reads s s
@@ -31,6 +28,12 @@ reads_same s = record {
 }
 
 -- ---- fronts of lists
+
+pub cons_first : {X : Type 0} (x y : X) (xs ys : List X) → x ∷ xs ≡ y ∷ ys → x ≡ y
+cons_first x y xs ys e = cc
+
+pub cons_rest : {X : Type 0} (x y : X) (xs ys : List X) → x ∷ xs ≡ y ∷ ys → xs ≡ ys
+cons_rest x y xs ys e = cc
 
 pair-item : (tag tag' : ℕ) (a b c d : CellTree) → pair tag a b ≡ pair tag' c d → a ≡ c
 pair-item tag tag' a b c d e = cc

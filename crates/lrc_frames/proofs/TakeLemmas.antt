@@ -1,5 +1,5 @@
 -- What is taken of a visit's result: its values, and then its bindings.
-use Rattle.std.proofs.Common.{◌≡◌, ℕ, ◌+◌, ◌-◌, ◌^◌, min, Bool, true, false, List, [], ◌∷◌, ◌++◌, length, map, Contains, Some, refl, sym, ap, ◌∙◌, subst, arith, pos}
+use Rattle.std.proofs.Common.{◌≡◌, ℕ, ◌+◌, ◌-◌, ◌^◌, min, Bool, true, false, List, [], ◌∷◌, length, map, Some, sym, ap, ◌∙◌, subst, arith}
 use Rattle.std.specs.List.{range_with_len, AllByRecursion}
 use Rattle.std.proofs.lemmas.List.{length-map}
 use Rattle.std.proofs.lemmas.List.FromFn.{length-map-range_with_len}
@@ -11,14 +11,14 @@ use Rattle.lrc_plan_meaning.specs.declared.Bound.{Bound}
 use Rattle.lrc_plan_meaning.specs.declared.Bound.TheVariants as b
 use Rattle.lrc_plan_meaning.specs.Items.{visits_of, attrs_of_visit, values_of_visit, symbol_at}
 use Rattle.lrc_visit_meaning.specs.Values.{Datum, value, binding, Data, Result}
-use Rattle.lrc_store.specs.Cells.{CellTree, number, pair}
+use Rattle.lrc_store.specs.Cells.{CellTree}
 use Rattle.lrc_store.specs.Standing.{Standing, Stands, meant}
 use Rattle.lrc_store.specs.Words.{Keeps}
 use Rattle.lrc_store.proofs.Known.{known-stands, stands-meant}
-use Rattle.lrc_code.specs.Forms.{list_cell, tree_cell, result_cell}
+use Rattle.lrc_code.specs.Forms.{list_cell, result_cell}
 use Rattle.lrc_code.specs.Reading.{IsResult, HasResultParts}
 use Rattle.lrc_code.specs.declared.calls.ResultParts.{ResultParts}
-use Rattle.lrc_call_meaning.specs.Forms.{datum_cell, binding_cell, values_cell, bindings_cell, result_form}
+use Rattle.lrc_call_meaning.specs.Forms.{datum_cell, values_cell, bindings_cell, result_form}
 use Rattle.lrc_call_meaning.specs.Spelled.{IsSpelled, IsSpelledDatum, AreSpelledData}
 use Rattle.lrc_eval.specs.declared.values.Val.{Val}
 use Rattle.lrc_functions.specs.declared.function.Callee.{Callee}

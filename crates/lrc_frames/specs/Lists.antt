@@ -35,6 +35,7 @@ abbrev pub HasFront : Standing → List CellTree → Option Front → Type 0
 HasFront s items None = items ≡ []
 HasFront s items (Some front) = IsFront s items front
 
+-- whether it is a binding
 abbrev pub is_binding : Datum → Bool
 is_binding (value t) = false
 is_binding (binding ds) = true
@@ -46,7 +47,7 @@ IsValue x d = ((o : ℕ) × (x ≡ b.Value o)) × ((t : Tree) × (d ≡ value t)
 abbrev pub IsBinding : Bound → Datum → Type 0
 IsBinding x d = ((n : ℕ) × (i : ℕ) × (j : ℕ) × (x ≡ b.Kid n i j)) × ((ds : Data) × (d ≡ binding ds))
 
--- the datum is read rightly for the item of this number
+-- what a reading asks of an item, its number and the datum that goes there
 abbrev pub IsReadAs : Reading → ℕ → Bound → Datum → Type 0
 IsReadAs r.Values n x d = IsValue x d
 IsReadAs r.Bindings n x d = IsBinding x d

@@ -5,6 +5,8 @@
 //! is made of it. No step runs another visit, remembers anything, or takes memory.
 #![tactic(auto)]
 
+mod beginning;
+mod bindings;
 mod body;
 mod calling;
 mod ending;
@@ -16,6 +18,7 @@ mod nodes;
 mod reading;
 mod taking;
 
+pub use beginning::begin;
 pub use body::Body;
 pub use calling::make_call;
 pub use ending::finish;

@@ -27,11 +27,7 @@ pub(crate) struct Node {
 }
 
 /// The node that a tree is; none where it is a leaf, or its production is not there.
-pub(crate) fn node_of<St: Store>(
-    store: &mut St,
-    prods: &[Production],
-    tree: Handle,
-) -> Option<Node>
+pub(crate) fn node_of<St: Store>(store: &mut St, prods: &[Production], tree: Handle) -> Option<Node>
     requires { (t : Tree) × Stands (St.state store.old) tree.0 (tree_cell t) }
     ensures node { (t : Tree) → Stands (St.state store.old) tree.0 (tree_cell t) → HasNode (St.state store.new) prods.now t result }
     ensures reads { Reads (St.state store.old) (St.state store.new) }

@@ -71,12 +71,7 @@ fn binding_in<St: Store>(store: &mut St, item: Handle) -> Val
 }
 
 /// The value for an item that goes to this number.
-pub(crate) fn read<St: Store>(
-    store: &mut St,
-    reading: Reading,
-    number: u32,
-    item: Handle,
-) -> Val
+pub(crate) fn read<St: Store>(store: &mut St, reading: Reading, number: u32, item: Handle) -> Val
     requires { (x : Bound) × (d : Datum) × IsReadAs reading number x d × Stands (St.state store.old) item.0 (datum_cell d) × IsSpelledDatum d }
     ensures shows { (x : Bound) (d : Datum) → IsReadAs reading number x d → Stands (St.state store.old) item.0 (datum_cell d) → IsSpelledDatum d → Shows (St.state store.new) result x d }
     ensures reads { Reads (St.state store.old) (St.state store.new) }

@@ -28,6 +28,7 @@ pub fn take_result<St: Store>(
     ensures reads { Reads (St.state store.old) (St.state store.new) }
     ensures same_meaning { St.meaning store.new ≡ St.meaning store.old }
 {
+    // There are as many values, and as many bindings, as the visit gives.
     let parts = result_parts(store, outcome);
     let values = callee.synthesised.as_slice();
     let _all_values = fill(store, frame, values, parts.synthesised, Reading::Values);

@@ -20,8 +20,8 @@ mod visits;
 mod waiting;
 
 pub use lrc_plan_meaning::{Action, Bound, Sequences, Step};
+pub use parts::{Block, visits_of};
 pub use parts_texts::parts_text;
 pub use plan_texts::plan_text;
-pub use parts::{Block, visits_of};
 pub use planning::plan;
 pub use sequenced::Plan;

@@ -78,7 +78,7 @@ bounds-frame-occurrence g c =
     let gr = grammar_of grammar in
     let parts = c.args.functions.now.plan.parts.sorts in
     let s = g.St.Store.state c.args.store.now in
-    occurrence-within gr parts s c.args.frame.now c.args.body c.args.occurrence c.args.equation c.requires.0 c.requires.1 grammar.ok
+    occurrence-within gr parts s c.args.frame.now c.args.body c.args.occurrence c.args.equation c.requires.0 c.requires.1
 
 pub returns-clause-evaluates : goal.returns-clause-evaluates
 returns-clause-evaluates g c r can =
@@ -89,4 +89,4 @@ returns-clause-evaluates g c r can =
     let e = c.index-as_slice-number.result in
     let there = equation-there gr parts grammar.ok grammar.few s c.args.frame.now c.args.body c.args.occurrence c.args.equation r can
     c.in-Some.number c.in-Some.is c.as_slice.result.now c.index-as_slice-body.result c.as_slice-2.result.now c.as_slice.ensures c.index-as_slice-body.is c.as_slice-2.ensures e c.index-as_slice-number.is in
-    evaluates-some gr parts s c.args.frame.now c.args.body c.args.occurrence c.args.equation r can e there (g.St.Store.state c.evaluate.new.store) grammar.ok c.in_ok-value.field-0 c.in-Some-2.value c.in-Some-2.is c.in_ok-value.ensures.evaluates
+    evaluates-some gr parts s c.args.frame.now c.args.body c.args.occurrence c.args.equation r can e there (g.St.Store.state c.evaluate.new.store) c.in_ok-value.field-0 c.in-Some-2.value c.in-Some-2.is c.in_ok-value.ensures.evaluates

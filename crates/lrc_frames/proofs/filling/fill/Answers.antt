@@ -1,9 +1,8 @@
-use Rattle.std.proofs.Common.{◌≡◌, ℕ, ◌+◌, List, [], ◌∷◌, map, drop, get_or, subst, sym, refl, ◌∙◌, arith}
+use Rattle.std.proofs.Common.{ℕ, ◌+◌, List, map, drop, get_or, subst, refl, ◌∙◌, arith}
 use Rattle.std.proofs.lemmas.List.{drop_all}
-use Rattle.lrc_store.specs.Standing.{Standing}
 use Rattle.lrc_store.proofs.Lasting.{reads-then}
 use Rattle.lrc_call_meaning.specs.Forms.{datum_cell}
-use Rattle.lrc_frames.specs.Lists.{HasFront, FilledIf}
+use Rattle.lrc_frames.specs.Lists.{HasFront}
 use Rattle.lrc_frames.proofs.ReadLemmas.{reads_same}
 use Rattle.lrc_frames.proofs.FillLemmas.{Left, all_left, left_there, next, left_behind, ends_early, ends}
 use Rattle.lrc_frames.proofs.filling.fill.Goals as goal
@@ -49,7 +48,7 @@ read-requires g c =
     let left = left_there w.0 w.1 s c.numbers.frame w.2 w.3 numbers i c.numbers.rest.0 c.args.reading w.4 w.5 c.numbers-test.true (c.numbers.invariant.left w.0 w.1 w.2 w.3 w.4 w.5 w.6) in
     let front = c.in-Some.ensures.front (map datum_cell left.more) left.fills.list in
     let now = next w.0 w.1 s t c.front_of.ensures.reads.stays.lasts.known c.numbers.frame w.2 (get_or numbers i 0) (drop (i + 1) numbers) c.numbers.rest.0 c.args.reading c.in-Some.front
-        left.run left.later left.more left.fills front in
+    left.run left.later left.more left.fills front in
     (now.item, now.datum, now.read, now.stands, now.spelled)
 
 pub bounds-frame-number : goal.bounds-frame-number

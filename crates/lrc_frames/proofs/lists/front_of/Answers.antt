@@ -1,5 +1,4 @@
 use Rattle.std.proofs.Common.{sym, ◌∙◌}
-use Rattle.lrc_store.specs.Standing.{meant}
 use Rattle.lrc_store.proofs.Known.{stands-meant}
 use Rattle.lrc_code.specs.Forms.{list_cell}
 use Rattle.lrc_frames.proofs.ReadLemmas.{no_front, no_number, front_shown}

@@ -1,7 +1,6 @@
-use Rattle.std.proofs.Common.{◌≡◌, ◌+◌, List, [], map, drop, subst, sym, ◌∙◌, arith}
+use Rattle.std.proofs.Common.{◌+◌, List, drop, subst, ◌∙◌, arith}
 use Rattle.std.proofs.lemmas.List.{drop_all}
 use Rattle.lrc_base.specs.declared.grammar.Kid.{Kid}
-use Rattle.lrc_store.specs.Standing.{Standing}
 use Rattle.lrc_store.proofs.Lasting.{reads-then}
 use Rattle.lrc_code.specs.Forms.{kid_cells}
 use Rattle.lrc_frames.specs.Lists.{HasFront}
@@ -45,7 +44,7 @@ returns-then-not-is_of_kind-clause-are g c ts stands =
     let front = c.in-Some.ensures.front (kid_cells left.left) left.stands in
     let next = now s t t c.args.prods.now ts kids c.kids.rest.0 kid (drop (i + 1) kids) left c.in-Some.front front in
     wrong_kid s t t c.args.prods.now ts kids c.kids.rest.0 kid (drop (i + 1) kids) left c.in-Some.front front
-    (sym (c.is_of_kind.ensures.is next.kid next.item) ∙ c.if-not-is_of_kind.true)
+    c.is_of_kind.result (c.is_of_kind.ensures.is next.kid next.item) c.if-not-is_of_kind.true
 
 pub returns-then-not-is_of_kind-clause-reads : goal.returns-then-not-is_of_kind-clause-reads
 returns-then-not-is_of_kind-clause-reads g c =
@@ -69,7 +68,7 @@ kids-preserved g c =
           let front = c.in-Some.ensures.front (kid_cells left.left) left.stands in
           let next = now s t u c.args.prods.now ts kids c.kids.rest.0 kid (drop (i + 1) kids) left c.in-Some.front front in
           kids_left s t u c.args.prods.now ts kids c.kids.rest.0 kid (drop (i + 1) kids) left c.in-Some.front front c.is_of_kind.ensures.reads.stays.lasts.known
-          (sym (c.is_of_kind.ensures.is next.kid next.item) ∙ c.if-not-is_of_kind.false);
+          c.is_of_kind.result (c.is_of_kind.ensures.is next.kid next.item) c.if-not-is_of_kind.false;
       reads = reads-then o t u (reads-then o s t c.kids.invariant.reads c.front_of.ensures.reads) c.is_of_kind.ensures.reads;
       same_meaning = c.is_of_kind.ensures.same_meaning ∙ c.front_of.ensures.same_meaning ∙ c.kids.invariant.same_meaning;
     }

@@ -8,7 +8,7 @@ use Rattle.lrc_frames.specs.declared.body.Body.{Body}
 use Rattle.lrc_frames.specs.Frames.{Run}
 use Rattle.lrc_frames.specs.Lists.{FillsEach}
 use Rattle.lrc_frames.proofs.EachLemmas.{LeftEach}
-use Rattle.lrc_frames.proofs.filling.fill_each.Given as goal
+use Rattle.lrc_frames.proofs.bindings.fill_each.Given as goal
 
 -- the lists of numbers that were not passed, and the rest of the bindings, are left
 abbrev pub invariant-lists : goal.invariant-lists
