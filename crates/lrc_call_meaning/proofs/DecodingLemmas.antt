@@ -52,7 +52,7 @@ tree-no-list (name bytes) h = name-no-list bytes h.0
 tree-no-list (node p kids) h = no-list (256 + p) (list_cell (kid_cells kids)) nil (λ e. omega (arith, e))
 
 mutual
-  datum-back : (d : Datum) → IsSpelledDatum d → datum_in (datum_cell d) ≡ d
+  pub datum-back : (d : Datum) → IsSpelledDatum d → datum_in (datum_cell d) ≡ d
   datum-back (value t) h = tree-no-list t h ∙ ap value (value-back t h)
   datum-back (binding no_data) h = refl
   datum-back (binding (data_then d ds)) h = ap binding (data-back (data_then d ds) h)

@@ -39,7 +39,7 @@ words-tag : (n : ℕ) (bytes : List ℕ) (tag : ℕ) (l r : CellTree) → words_
 words-tag zero bytes tag l r e = absurd (cc)
 words-tag (suc n) bytes tag l r e = sym (tag-same 3 tag _ _ l r e)
 
-name-tag : (bytes : List ℕ) (tag : ℕ) (l r : CellTree) → name_cell bytes ≡ pair tag l r → tag ≡ 3
+pub name-tag : (bytes : List ℕ) (tag : ℕ) (l r : CellTree) → name_cell bytes ≡ pair tag l r → tag ≡ 3
 unfolding name_cell
 name-tag bytes tag l r e = words-tag (div_ceil (length bytes) 8) bytes tag l r e
 

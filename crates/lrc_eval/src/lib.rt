@@ -13,4 +13,4 @@ mod values;
 pub use expression::evaluate;
 pub use kinds::eval;
 pub use laws::{trees_are_the_same_by_cells, values_are_of_their_kinds};
-pub use values::{Val, value_handle, value_of_handle};
+pub use values::{Val, empty_list, value_handle, value_of_handle};

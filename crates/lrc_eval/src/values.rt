@@ -36,7 +36,7 @@ fn told<St: Store>(store: &St, handle: Handle) -> Handle
 }
 
 /// The handle of the empty list, which is known in every store.
-pub(crate) fn empty_list<St: Store>(store: &St) -> Handle
+pub fn empty_list<St: Store>(store: &St) -> Handle
     ensures { Tells (St.state store.now) result.0 nil }
 {
     let _ = store.published();

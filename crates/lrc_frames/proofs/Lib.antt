@@ -1,0 +1,15 @@
+pub mod FrameLemmas
+pub mod ReadLemmas
+pub mod FillLemmas
+pub mod ItemLemmas
+pub mod TakeLemmas
+pub mod NodeLemmas
+pub mod EachLemmas
+pub mod BeginLemmas
+pub mod MadeLemmas
+pub mod ShownLemmas
+pub mod EndLemmas
+pub mod EquationLemmas
+pub mod EvaluateLemmas
+pub mod SymbolLemmas
+pub mod CallLemmas

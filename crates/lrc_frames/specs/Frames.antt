@@ -48,6 +48,10 @@ pub record Run : Type 0 where
   pub available : List Bound
   pub held : Held
 
+-- the run with these items available besides, which hold these data
+abbrev pub gaining : Run → List Bound → List Datum → Run
+gaining r items ds = record r { available = r.available ++ items; held = holding items ds r.held }
+
 module _ (g : Grammar) (parts : List Partition) where
   -- A visit runs over this frame, on this node: each item that is available is shown.
   pub record RunsAt (s : Standing) (frame : List Val) (body : Body) (r : Run) : Type 0 where
@@ -66,7 +70,4 @@ module _ (g : Grammar) (parts : List Partition) where
 
   -- the run behind an action that gave these data
   abbrev pub after : Run → Action → List Datum → Run
-  after r x ds = record r {
-    available = r.available ++ makes g.sorts parts r.production x;
-    held = holding (makes g.sorts parts r.production x) ds r.held;
-  }
+  after r x ds = gaining r (makes g.sorts parts r.production x) ds

@@ -1,7 +1,6 @@
 -- What the steps of a visit that runs answer.
-use Rattle.std.specs.Prelude.{◌≡◌, ℕ, ◌+◌, ◌-◌, ◌≤◌, ◌^◌, min, Bool, true, false, cond, List, [], ◌∷◌, length, map, Option, Some, None, IsTrue, Contains, Result, IfOk, OnErr}
+use Rattle.std.specs.Prelude.{◌≡◌, ℕ, ◌-◌, Bool, true, false, cond, List, [], ◌∷◌, length, Option, Some, None, IsTrue, Contains, Result, IfOk, OnErr}
 use Rattle.std.specs.Option.{option_map_or}
-use Rattle.std.specs.List.{range_with_len}
 use Rattle.lrc_base.specs.declared.grammar.Kind.TheVariants as k
 use Rattle.lrc_base.specs.declared.grammar.Production.{Production}
 use Rattle.lrc_meaning.specs.Tree.{Tree, Trees, node}
@@ -14,7 +13,7 @@ use Rattle.lrc_plan_meaning.specs.Items.{visits_of, attrs_of_visit, values_of_vi
 use Rattle.lrc_plan_meaning.specs.Bindings.{binding}
 use Rattle.lrc_visit_meaning.specs.Values as plain
 use Rattle.lrc_visit_meaning.specs.Values.{Datum, value, Data, Call}
-use Rattle.lrc_visit_meaning.specs.Visits.{is_of_kind, leaf_in, equation_of, values_in, evaluated, tree_at, is_visited, call_of, given_by, one_visit}
+use Rattle.lrc_visit_meaning.specs.Visits.{is_of_kind, leaf_in, equation_of, values_in, evaluated, tree_at, is_visited, call_of, one_visit}
 use Rattle.lrc_visit_meaning.specs.Demand.{equation_met}
 use Rattle.lrc_store.specs.Cells.{CellTree, parts as parts_of, IsWithin}
 use Rattle.lrc_store.specs.Standing.{Standing, Told}
@@ -27,6 +26,11 @@ use Rattle.lrc_call_meaning.specs.Spelled.{IsSpelledCall}
 use Rattle.lrc_eval.specs.declared.values.Val.{Val}
 use Rattle.lrc_frames.specs.declared.body.Body.{Body}
 use Rattle.lrc_frames.specs.Frames.{Run, RunsAt, at_start, after}
+
+-- the item holds what is of its sort: an occurrence a value, and a symbol's binding a binding
+abbrev pub IsProper : Bound → Datum → Type 0
+IsProper (b.Value o) d = (t : Tree) × (d ≡ value t)
+IsProper (b.Kid n i j) d = (ds : Data) × (d ≡ plain.binding ds)
 
 module _ (g : Grammar) (parts : List Partition) where
   -- the call visits a node, whose body is at its start
@@ -86,11 +90,6 @@ module _ (g : Grammar) (parts : List Partition) where
   pub record IsOf (r : Run) (n v : ℕ) (outcome : plain.Result) : Type 0 where
     pub values : length outcome.synthesised ≡ length (attrs_of_visit g.sorts parts false (symbol_at g.sorts r.production n).sort v)
     pub bindings : length outcome.bindings ≡ visits_of parts (symbol_at g.sorts r.production n).sort - v
-
-  -- the item holds what is of its sort: an occurrence a value, and a symbol's binding a binding
-  abbrev pub IsProper : Bound → Datum → Type 0
-  IsProper (b.Value o) d = (t : Tree) × (d ≡ value t)
-  IsProper (b.Kid n i j) d = (ds : Data) × (d ≡ plain.binding ds)
 
   -- at the end of visit v all that it gives is available, and what it hands on is proper
   pub record IsDone (r : Run) (v : ℕ) : Type 0 where

@@ -5,6 +5,22 @@
 //! is made of it. No step runs another visit, remembers anything, or takes memory.
 #![tactic(auto)]
 
+mod beginning;
+mod bindings;
 mod body;
+mod calling;
+mod ending;
+mod evaluating;
+mod filling;
+mod items;
+mod lists;
+mod nodes;
+mod reading;
+mod taking;
 
+pub use beginning::begin;
 pub use body::Body;
+pub use calling::make_call;
+pub use ending::finish;
+pub use evaluating::evaluate_into;
+pub use taking::take_result;

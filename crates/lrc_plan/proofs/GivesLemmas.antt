@@ -150,7 +150,7 @@ module _ (g : Grammar) (well : IsTrue (is_well_formed g)) (found : Partitions) (
             let in_from : is_among from y ≡ true = among from y old.gained_there in
             let in_to : is_among to y ≡ true =
             among to y (Contains-append_right (flat_map (needs sorts parts p) (segment sorts parts p v)) values y (k, less, get_or_default values k y d less)) in
-            let listed = subst (λ z. Contains (items_of sorts parts p) z) is (value_listed sorts parts g.prods p right r.number (omega arith)) in
+            let listed = subst (λ z. Contains (items_of sorts parts p) z) is (value_listed sorts parts p r.number (omega arith)) in
             Contains-append_left (handed_in sorts parts p v) M y
             (Contains-append_right E rest y
             (member_flat (λ w. binding sorts parts p w v) (range_with_len 1 (v - 1)) u y (member_range 1 (v - 1) u first (omega arith))

@@ -26,6 +26,25 @@ use Rattle.lrc_plan_meaning.proofs.ReadyLemmas as runs
 use Rattle.lrc_plan.proofs.PairLemmas.{all_front}
 use Rattle.lrc_plan.proofs.InLemmas.{in_range, values_in, production_is_right}
 
+-- each occurrence is listed, and each binding of a symbol from one of its visits to a later one
+module _ (sorts : List Sort) (parts : List Partition) (p : Production) where
+  abbrev all_visits : ℕ → ℕ
+  all_visits s = visits_of parts (symbol_at sorts p s).sort
+
+  pub value_listed : (o : ℕ) → o < length (occurrences_of sorts p) → Contains (items_of sorts parts p) (b.Value o)
+  value_listed o less =
+      let total = length (occurrences_of sorts p) in
+      Contains-append_left (map b.Value (range_with_len 0 total)) (flat_map (λ s. bindings_at s (all_visits s)) (range_with_len 0 (length (symbols_of sorts p)))) (b.Value o)
+      (member_map b.Value (range_with_len 0 total) o (member_range 0 total o (omega arith) (omega arith)))
+
+  pub kid_listed : (s i j : ℕ) → s < length (symbols_of sorts p) → 1 ≤ i → i < j → j ≤ visits_of parts (symbol_at sorts p s).sort → Contains (items_of sorts parts p) (b.Kid s i j)
+  kid_listed s i j there one less le =
+      let n = all_visits s in
+      Contains-append_right (map b.Value (range_with_len 0 (length (occurrences_of sorts p)))) (flat_map (λ t. bindings_at t (all_visits t)) (range_with_len 0 (length (symbols_of sorts p)))) (b.Kid s i j)
+      (member_flat (λ t. bindings_at t (all_visits t)) (range_with_len 0 (length (symbols_of sorts p))) s (b.Kid s i j) (member_range 0 (length (symbols_of sorts p)) s (omega arith) (omega arith))
+      (member_flat (λ k. map (b.Kid s k) (range_with_len (k + 1) (n - k))) (range_with_len 1 n) i (b.Kid s i j) (member_range 1 n i one (omega arith))
+      (member_map (b.Kid s i) (range_with_len (i + 1) (n - i)) j (member_range (i + 1) (n - i) j (omega arith) (omega arith)))))
+
 module _ (sorts : List Sort) (parts : List Partition) (prods : List Production) (p : Production) (right : is_production_right sorts prods p ≡ true) where
   abbrev pub total : ℕ
   total = length (occurrences_of sorts p)
@@ -36,24 +55,11 @@ module _ (sorts : List Sort) (parts : List Partition) (prods : List Production) 
   abbrev visits_at_symbol : ℕ → ℕ
   visits_at_symbol s = visits_of parts (symbol_at sorts p s).sort
 
-  pub value_listed : (o : ℕ) → o < total → Listed (b.Value o)
-  value_listed o less =
-      Contains-append_left (map b.Value (range_with_len 0 total)) (flat_map (λ s. bindings_at s (visits_at_symbol s)) (range_with_len 0 (length (symbols_of sorts p)))) (b.Value o)
-      (member_map b.Value (range_with_len 0 total) o (member_range 0 total o (omega arith) (omega arith)))
-
-  kid_listed : (s i j : ℕ) → s < length (symbols_of sorts p) → 1 ≤ i → i < j → j ≤ visits_at_symbol s → Listed (b.Kid s i j)
-  kid_listed s i j there one less le =
-      let n = visits_at_symbol s in
-      Contains-append_right (map b.Value (range_with_len 0 total)) (flat_map (λ t. bindings_at t (visits_at_symbol t)) (range_with_len 0 (length (symbols_of sorts p)))) (b.Kid s i j)
-      (member_flat (λ t. bindings_at t (visits_at_symbol t)) (range_with_len 0 (length (symbols_of sorts p))) s (b.Kid s i j) (member_range 0 (length (symbols_of sorts p)) s (omega arith) (omega arith))
-      (member_flat (λ k. map (b.Kid s k) (range_with_len (k + 1) (n - k))) (range_with_len 1 n) i (b.Kid s i j) (member_range 1 n i one (omega arith))
-      (member_map (b.Kid s i) (range_with_len (i + 1) (n - i)) j (member_range (i + 1) (n - i) j (omega arith) (omega arith)))))
-
   tree_listed : (place : Place) (tree : Option ℕ) → place.tree ≡ tree → IsPlaced sorts place → place.start ≤ total → All Listed (option_map_or (λ t. b.Value t ∷ []) tree [])
   tree_listed place None e placed le = All-nil Listed
   tree_listed place (Some t) e placed le =
       let before = placed.tree_before t e in
-      All-cons Listed (b.Value t) [] (value_listed t (omega arith)) (All-nil Listed)
+      All-cons Listed (b.Value t) [] (value_listed sorts parts p t (omega arith)) (All-nil Listed)
 
   taken_listed : (s v : ℕ) → s < length (symbols_of sorts p) → v ≤ visits_at_symbol s → All Listed (taken sorts parts (symbol_at sorts p s) s v)
   taken_listed s v there le =
@@ -63,15 +69,15 @@ module _ (sorts : List Sort) (parts : List Partition) (prods : List Production) 
       All-append Listed (tree_of place) (values_of_visit sorts parts true place.sort place.start v ++ map (λ u. b.Kid s u v) (range_with_len 1 (v - 1)))
       (tree_listed place place.tree refl placed (omega arith))
       (All-append Listed (values_of_visit sorts parts true place.sort place.start v) (map (λ u. b.Kid s u v) (range_with_len 1 (v - 1)))
-      (values_in sorts parts Listed true place.sort place.start v (λ x less. value_listed (place.start + x) (omega arith)))
-      (All-map Listed (λ u. b.Kid s u v) (range_with_len 1 (v - 1)) (in_range (λ u. Listed (b.Kid s u v)) 1 (v - 1) (λ u low less. kid_listed s u v there low (omega arith) le))))
+      (values_in sorts parts Listed true place.sort place.start v (λ x less. value_listed sorts parts p (place.start + x) (omega arith)))
+      (All-map Listed (λ u. b.Kid s u v) (range_with_len 1 (v - 1)) (in_range (λ u. Listed (b.Kid s u v)) 1 (v - 1) (λ u low less. kid_listed sorts parts p s u v there low (omega arith) le))))
 
   reads_listed : (o : ℕ) → All Listed (firsts_of (flat_map equation_needs p.equations) o)
   reads_listed o =
       let front = all_front (IsNeedWithin total) (flat_map equation_needs p.equations) (flat_map (tree_needs sorts) (places_of sorts p)) (needs_within sorts prods p right) in
       All-map Listed (λ (n : Need). b.Value n.first) (filter (λ (n : Need). n.then == o) (flat_map equation_needs p.equations))
       (All-filter (λ (n : Need). n.then == o) (λ (n : Need). Listed (b.Value n.first)) (flat_map equation_needs p.equations)
-      (All-weaker (IsNeedWithin total) (λ (n : Need). Listed (b.Value n.first)) (λ n h. value_listed n.first h.0) (flat_map equation_needs p.equations) front))
+      (All-weaker (IsNeedWithin total) (λ (n : Need). Listed (b.Value n.first)) (λ n h. value_listed sorts parts p n.first h.0) (flat_map equation_needs p.equations) front))
 
   abbrev NeedsListed : Action → Type 0
   NeedsListed x = All Listed (needs sorts parts p x)
