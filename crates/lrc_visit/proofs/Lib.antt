@@ -1,0 +1,4 @@
+pub mod ProperLemmas
+pub mod PointLemmas
+pub mod ActionLemmas
+pub mod HitLemmas
