@@ -2,3 +2,4 @@ pub mod ProperLemmas
 pub mod PointLemmas
 pub mod ActionLemmas
 pub mod HitLemmas
+pub mod WaitLemmas
