@@ -3,3 +3,4 @@ pub mod PointLemmas
 pub mod ActionLemmas
 pub mod HitLemmas
 pub mod WaitLemmas
+pub mod MeasureLemmas
