@@ -1,5 +1,5 @@
 -- The next action of a body: an evaluation, or a visit, which waits for the result of its call.
-use Rattle.std.proofs.Common.{◌≡◌, ℕ, suc, ◌+◌, ◌-◌, max, false, IsTrue, cond, List, [], ◌∷◌, ◌++◌, Contains, Option, Some, None, slice_get, refl, sym, ap, ◌∙◌, subst, arith}
+use Rattle.std.proofs.Common.{◌≡◌, ℕ, suc, ◌+◌, ◌-◌, ◌<◌, max, false, IsTrue, cond, List, [], ◌∷◌, ◌++◌, Contains, Option, Some, None, slice_get, refl, sym, ap, ◌∙◌, subst, arith}
 use Rattle.std.specs.Option.{option_map, option_map_or}
 use Rattle.std.proofs.lemmas.List.FromFn.{length-range_with_len}
 use Rattle.lrc_base.specs.declared.grammar.Equation.{Equation}
@@ -13,16 +13,17 @@ use Rattle.lrc_plan_meaning.specs.Sequences.{is_defined}
 use Rattle.lrc_plan_meaning.specs.Sound as plan
 use Rattle.lrc_plan_meaning.specs.Sound.{IsVisitThere, IsSound}
 use Rattle.lrc_visit_meaning.specs.Values.{value, Call, Result}
-use Rattle.lrc_visit_meaning.specs.Visits.{leaf_in, equation_of, values_in, evaluated, call_of, given_by, plain_visit}
+use Rattle.lrc_visit_meaning.specs.Visits.{Given, leaf_in, equation_of, values_in, evaluated, call_of, given_by, plain_visit}
 use Rattle.lrc_visit_meaning.specs.Demand.{Met, equation_met, reach}
 use Rattle.lrc_call_meaning.specs.Reached.{cells_of}
 use Rattle.lrc_frames.specs.Frames.{Run, after}
 use Rattle.lrc_frames.specs.Steps.{is_callable, evaluation_cells, IsOf}
 use Rattle.lrc_order_meaning.proofs.MemberLemmas.{member_slice}
+use Rattle.lrc_laws.proofs.FuelLemmas.{mapped, where_true}
 use Rattle.lrc_laws.proofs.BackLemmas.{plain_whole}
 use Rattle.lrc_visit.specs.Points.{evaluation_met, segment_of, Point, AtVisit}
 use Rattle.lrc_visit.proofs.ProperLemmas.{called}
-use Rattle.lrc_visit.proofs.PointLemmas.{next_within, stops, moves_on}
+use Rattle.lrc_visit.proofs.PointLemmas.{next_within, stops, gives_lower, moves_on}
 
 module _ (g : Grammar) (parts : List Partition) where
   -- the cells of what an evaluation meets
@@ -87,6 +88,15 @@ module _ (g : Grammar) (parts : List Partition) where
         stops g parts fuel c number r at height met here.point (a.Visit s v) here.action
         (ap (λ b. cond b (option_map given_by (plain_visit g parts fuel inner)) None) here.callable
         ∙ ap (option_map given_by) (ap (plain_visit g parts fuel) (sym here.call) ∙ none))
+
+    -- where the whole call has a result this has one, which is lower
+    pub inner_lower : (q : Result) → plain_visit g parts (suc fuel) c ≡ Some q → (i : Result) × (plain_visit g parts fuel d ≡ Some i) × (i.height < q.height)
+    inner_lower q some =
+        let gives = gives_lower g parts fuel c number r at height met here.point (a.Visit s v) here.action q some in
+        let inside = where_true (is_callable g parts r s) (option_map given_by (plain_visit g parts fuel inner)) gives.0 gives.1 in
+        let found = mapped given_by (plain_visit g parts fuel inner) gives.0 inside.1 in
+        let less = gives.2 in
+        (found.0, ap (plain_visit g parts fuel) here.call ∙ found.1, subst (λ (given : Given). given.height < q.height) (sym found.2) less)
 
     module _ (q : Result) (some : plain_visit g parts fuel d ≡ Some q) where
       inner_some : plain_visit g parts fuel inner ≡ Some q

@@ -3,4 +3,5 @@ pub mod PointLemmas
 pub mod ActionLemmas
 pub mod HitLemmas
 pub mod WaitLemmas
+pub mod MetCellLemmas
 pub mod MeasureLemmas

@@ -1,6 +1,6 @@
 -- A body begins at its start, goes on by what its next action gives, has no result where that gives nothing, and ends with
 -- the result of its call.
-use Rattle.std.proofs.Common.{◌≡◌, ℕ, suc, ◌+◌, ◌≤◌, max, true, false, IsTrue, cond, List, [], ◌∷◌, ◌++◌, length, drop, All, Contains, Option, Some, None, ◌⊎◌, inl, inr, slice_get, refl, sym, ap, ◌∙◌, subst, append-nil, append_assoc}
+use Rattle.std.proofs.Common.{◌≡◌, ℕ, suc, ◌+◌, ◌<◌, ◌≤◌, max, true, false, IsTrue, cond, List, [], ◌∷◌, ◌++◌, length, drop, All, Contains, Option, Some, None, ◌⊎◌, inl, inr, slice_get, refl, sym, ap, ◌∙◌, subst, arith, append-nil, append_assoc}
 use Rattle.std.specs.Prelude.{flat_map}
 use Rattle.std.specs.Option.{option_map, option_map_or, option_and_then}
 use Rattle.std.proofs.lemmas.Option.{same_Some, slice_get_within, get_or_from_slice_get}
@@ -21,6 +21,7 @@ use Rattle.lrc_visit_meaning.specs.Demand.{Met, called, answered, walk_met, acti
 use Rattle.lrc_frames.specs.Frames.{Run, at_start, after}
 use Rattle.lrc_frames.specs.Steps.{IsProper, IsDone}
 use Rattle.lrc_order_meaning.proofs.MemberLemmas.{member_first, member_later, member_cases, no_member}
+use Rattle.lrc_laws.proofs.FuelLemmas.{mapped, bound_by, max_right, walk_rises}
 use Rattle.lrc_laws.proofs.AlikeLemmas.{bound_gained}
 use Rattle.lrc_cell_laws.proofs.ReachedLemmas.{call_met}
 use Rattle.lrc_visit.specs.Points.{walk_on, met_on, segment_of, left_of, Meets, itself, earlier, later, outcome, Point}
@@ -150,6 +151,19 @@ module _ (g : Grammar) (parts : List Partition) where
           ∙ ap (λ o. option_map (result_of g parts r.production c.visit)
           (option_and_then (λ given. walk (makes g.sorts parts r.production) (step g parts (plain_visit g parts fuel) r.production r.kids) (left (at + 1)) (walked_on (makes g.sorts parts r.production) x (record { height = height; held = r.held }) given)) o)) none
 
+      -- where the call has a result the action gives something, which is lower
+      pub gives_lower : (q : Result) → plain_visit g parts (suc fuel) c ≡ Some q → (given : Given) × (stepped x ≡ Some given) × (given.height < q.height)
+      gives_lower q some =
+          let makes_of = makes g.sorts parts r.production in
+          let one = step g parts (plain_visit g parts fuel) r.production r.kids in
+          let before : Walked = record { height = height; held = r.held } in
+          let end = mapped (result_of g parts r.production c.visit) (walk_on g parts fuel r height (left at)) q (sym outcome_is ∙ some) in
+          let found = bound_by (λ given. walk makes_of one (left (at + 1)) (walked_on makes_of x before given)) (stepped x) end.0 (ap (walk_on g parts fuel r height) (sym left_is) ∙ end.1) in
+          let rise = walk_rises makes_of one one (left (at + 1)) (walked_on makes_of x before found.0) end.0 found.2 in
+          let up = max_right height found.0.height in
+          let high : suc end.0.height ≡ q.height = ap (λ (s : Result). s.height) end.2 in
+          (found.0, found.1, omega (arith, rise, up, high))
+
       module _ (given : Given) (gives : stepped x ≡ Some given) where
         abbrev here : List Bound
         here = makes g.sorts parts r.production x
@@ -220,7 +234,7 @@ module _ (g : Grammar) (parts : List Partition) where
       none_left : left at ≡ []
       none_left = drop_all at (segment_of g parts c r) last
 
-      abbrev result : Result
+      abbrev pub result : Result
       result = result_of g parts r.production c.visit (record { height = height; held = r.held })
 
       -- At the end the call has its result,

@@ -1,20 +1,24 @@
 -- What holds of a call whose result is waited for: its reach is within that of the whole call, which has no result where this
 -- has none.
-use Rattle.std.proofs.Common.{◌≡◌, ℕ, suc, ◌≤◌, List, Contains, None, subst, arith}
+use Rattle.std.proofs.Common.{◌≡◌, ℕ, suc, ◌<◌, ◌≤◌, List, Contains, Some, None, sym, ap, ◌∙◌, subst, arith}
+use Rattle.std.proofs.lemmas.Option.{same_Some}
 use Rattle.lrc_meaning.specs.Grammar.{Grammar}
 use Rattle.lrc_order_meaning.specs.declared.Partition.{Partition}
-use Rattle.lrc_visit_meaning.specs.Values.{Call}
+use Rattle.lrc_visit_meaning.specs.Values.{Call, Result}
 use Rattle.lrc_visit_meaning.specs.Visits.{plain_visit}
 use Rattle.lrc_visit_meaning.specs.Demand.{Met, reach}
+use Rattle.lrc_laws.proofs.FuelLemmas.{visit_bounded, visit_same}
 use Rattle.lrc_visit.specs.Points.{WaitsFor}
 use Rattle.lrc_visit.specs.Waits.{Waiting, Waits, whole, over}
-use Rattle.lrc_visit.proofs.ActionLemmas.{inner_within, no_result}
+use Rattle.lrc_visit.proofs.ActionLemmas.{inner_within, no_result, inner_lower}
 
 module _ (g : Grammar) (parts : List Partition) where
-  -- a body has no result where the visit that it waits for has none, and what that meets it meets too
+  -- a body has no result where the visit that it waits for has none, and a higher one where it has; and what that visit meets
+  -- it meets too
   pub record AreRight (waiting : Waiting) : Type 0 where
     pub fails : (n : ℕ) (c d : Call) → waiting n c d → plain_visit g parts n d ≡ None → plain_visit g parts (suc n) c ≡ None
     pub meets : (n : ℕ) (c d : Call) → waiting n c d → (x : Met) → Contains (reach g parts n d) x → Contains (reach g parts (suc n) c) x
+    pub lower : (n : ℕ) (c d : Call) → waiting n c d → (q : Result) → plain_visit g parts (suc n) c ≡ Some q → (i : Result) × (plain_visit g parts n d ≡ Some i) × (i.height < q.height)
 
   -- so it is of bodies that stand at visits
   pub standing_right : (waiting : Waiting) → ((n : ℕ) (c d : Call) → waiting n c d → WaitsFor g parts n c d) → AreRight waiting
@@ -25,6 +29,9 @@ module _ (g : Grammar) (parts : List Partition) where
     meets = λ n c d w x h.
         let at = stands n c d w in
         inner_within g parts n c at.number at.run at.at at.height at.met at.symbol at.visit d at.stands x h;
+    lower = λ n c d w q some.
+        let at = stands n c d w in
+        inner_lower g parts n c at.number at.run at.at at.height at.met at.symbol at.visit d at.stands q some;
   }
 
 module _ (waiting : Waiting) (fuel : ℕ) (root : Call) where
@@ -53,3 +60,30 @@ module _ (waiting : Waiting) (fuel : ℕ) (root : Call) where
     whole_meets n c (whole same is) x h =
         subst (λ d. Contains (reach g parts fuel d) x) is (subst (λ m. Contains (reach g parts m c) x) same h)
     whole_meets n d (over {c = c} w up) x h = whole_meets (suc n) c up x (right.meets n c d w x h)
+
+    -- A call that has a result is not one that waits for it. It is enough that this result is no higher than that of each call
+    -- on the way.
+    waits_above : (low : ℕ) (e : Call) (q : Result) → plain_visit g parts low e ≡ Some q → (n : ℕ) (d : Call) → low ≤ n → ((i : Result) → plain_visit g parts n d ≡ Some i → q.height ≤ i.height)
+        → Waits waiting fuel root n d → Waits (λ m b c. waiting m b c × ¬ (b ≡ e)) fuel root n d
+    waits_above low e q some n d above high (whole same is) = whole same is
+    waits_above low e q some n d above high (over {c = c} w up) =
+        let most = visit_bounded g parts low e q some in
+        over (
+          w,
+          λ same.
+              let there : plain_visit g parts (suc n) c ≡ Some q = ap (plain_visit g parts (suc n)) same ∙ visit_same g parts low (suc n) e q some (omega (arith, most, above)) in
+              let i = right.lower n c d w q there in
+              let less = i.2 in
+              let more = high i.0 i.1 in
+              absurd (omega (arith, less, more)),
+        )
+        (waits_above low e q some (suc n) c (omega (arith, above))
+        (λ j is.
+        let i = right.lower n c d w j is in
+        let less = i.2 in
+        let more = high i.0 i.1 in
+        omega (arith, less, more)) up)
+
+    pub waits_for_others : (n : ℕ) (e : Call) (q : Result) → plain_visit g parts n e ≡ Some q → Waits waiting fuel root n e → Waits (λ m b c. waiting m b c × ¬ (b ≡ e)) fuel root n e
+    waits_for_others n e q some waits =
+        waits_above n e q some n e (omega arith) (λ i is. let same : q.height ≡ i.height = ap (λ (s : Result). s.height) (same_Some q i (sym some ∙ is)) in omega (arith, same)) waits
