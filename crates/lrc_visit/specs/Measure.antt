@@ -1,5 +1,5 @@
--- How much a running visit has still to do, as one number that falls with each of its steps. A body of fuel n + 1 stands at
--- level n, and at most so many actions are in a segment that three times as many, and two, are no more than the base.
+-- How much a running visit has still to do, as one number that falls with each of its steps. The body of a call with fuel
+-- n + 1 stands at level n. The base is to be three times the number of actions of each segment, and two, at least.
 use Rattle.std.specs.Prelude.{ℕ, suc, ◌+◌, ◌-◌, ◌*◌, ◌^◌, List, [], ◌∷◌, flat_map, length}
 use Rattle.lrc_meaning.specs.Grammar.{Grammar}
 use Rattle.lrc_order_meaning.specs.declared.Partition.{Partition}
@@ -14,8 +14,8 @@ abbrev pub waiting_steps : ℕ → List ℕ → ℕ
 waiting_steps base [] = 0
 waiting_steps base (left ∷ lefts) = (steps left - 1) + waiting_steps base lefts * base
 
--- to make a call at a level, to take its answer there, and to go on with a body at its level, where bodies wait from the level
--- on, and above the body's
+-- What is to be done from a call on with fuel for this level, from its answer on, and from a body on that stands at this level
+-- and has so many actions left. The list is of the bodies that wait: those from the level on, and for a body those above it.
 abbrev pub to_open : ℕ → ℕ → List ℕ → ℕ
 to_open base level lefts = suc (waiting_steps base lefts) * base ^ level
 
