@@ -1,0 +1,4 @@
+pub mod WaitLemmas
+pub mod MeasureLemmas
+pub mod MoveLemmas
+pub mod TurnLemmas
