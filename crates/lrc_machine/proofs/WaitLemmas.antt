@@ -6,7 +6,7 @@ use Rattle.lrc_visit_meaning.specs.Values.{Call}
 use Rattle.lrc_store.specs.Cells.{CellTree, IsWithin}
 use Rattle.lrc_store.specs.Standing.{Standing}
 use Rattle.lrc_store.specs.Words.{Lasts}
-use Rattle.lrc_machine.specs.Machine.{Slots, Waiting, Waits, whole, over}
+use Rattle.lrc_machine.specs.Machine.{Slots, HaveRoom, Waiting, Waits, whole, over}
 
 -- a list of which one place was set
 pub set_here : {X : Type 0} (xs : List X) (i : ℕ) (x : X) → i < length xs → slice_get (slice_set xs i x) i ≡ Some x
@@ -19,6 +19,14 @@ set_other [] i k x less = refl
 set_other (y ∷ ys) i zero x less = absurd (omega arith)
 set_other (y ∷ ys) zero (suc k) x less = refl
 set_other (y ∷ ys) (suc i) (suc k) x less = set_other ys i k x (omega arith)
+
+-- where one frame with room was set, each has room
+pub set_room : {Frame : Type 0} (fits : Frame → Type 0) (frames : List Frame) (i : ℕ) (frame : Frame) → fits frame → HaveRoom fits frames → HaveRoom fits (slice_set frames i frame)
+set_room fits [] i frame fit rooms n f there = rooms n f there
+set_room fits (g ∷ gs) zero frame fit rooms zero f there = let same : frame ≡ f = cc in subst fits same fit
+set_room fits (g ∷ gs) zero frame fit rooms (suc n) f there = rooms (suc n) f there
+set_room fits (g ∷ gs) (suc i) frame fit rooms zero f there = rooms zero f there
+set_room fits (g ∷ gs) (suc i) frame fit rooms (suc n) f there = set_room fits gs i frame fit (λ k h e. rooms (suc k) h e) n f there
 
 -- what stands at a place, and what was read there
 pub frame_is : {X : Type 0} (xs : List X) (i : ℕ) (x y : X) → slice_get xs i ≡ Some x → y ≡ get_or xs i y → x ≡ y
@@ -66,3 +74,9 @@ module _ {Frame Mark : Type 0} (waits : Standing → Frame → ℕ → Call → 
     met_up s slots n c (whole e f) cell there = subst (λ k. Contains (meets k root) cell) e (subst (λ d. Contains (meets n d) cell) f there)
     met_up s slots n c (over {c = above} w rest) cell there =
         met_up s slots (suc n) above rest cell (within s w.frame n above w.mark c w.waits_for cell there)
+
+  -- what waits at a level below the root's
+  pub waits_at : (s : Standing) (slots : Slots Frame Mark) (n : ℕ) (c : Call) → n < fuel → Waits waits s slots fuel root n c
+      → (above : Call) × Waiting waits s slots fuel root n above c × Waits waits s slots fuel root (suc n) above
+  waits_at s slots n c less (whole e f) = absurd (omega arith)
+  waits_at s slots n c less (over {c = above} w rest) = (above, w, rest)

@@ -36,8 +36,12 @@ pub record RunsIn {Frame Mark : Type 0} (runs : Standing → Frame → ℕ → C
   pub has_frame : slice_get frames n ≡ Some frame
   pub runs_at : runs s frame n c mark
 
+-- each frame has room
+abbrev pub HaveRoom : {Frame : Type 0} → (Frame → Type 0) → List Frame → Type 0
+HaveRoom {Frame} fits frames = (n : ℕ) (frame : Frame) → slice_get frames n ≡ Some frame → fits frame
+
 module _ {Frame Mark : Type 0} (asks : Standing → Call → ℕ → Type 0) (gives : Standing → ℕ → Call → ℕ → Type 0)
-    (runs : Standing → Frame → ℕ → Call → Mark → Type 0) (waits : Standing → Frame → ℕ → Call → Mark → Call → Type 0) where
+    (runs : Standing → Frame → ℕ → Call → Mark → Type 0) (waits : Standing → Frame → ℕ → Call → Mark → Call → Type 0) (fits : Frame → Type 0) where
   -- Whose turn it is: a call is to be opened, or its result is there, or a body goes on.
   abbrev pub IsTurn : Standing → Slots Frame Mark → ℕ → Call → ℕ → Step Mark → Type 0
   IsTurn s slots fuel root level (step.Open handle) = (c : Call) × asks s c handle.0 × Waits waits s slots fuel root level c
@@ -45,11 +49,12 @@ module _ {Frame Mark : Type 0} (asks : Standing → Call → ℕ → Type 0) (gi
   IsTurn s slots fuel root level (step.Go mark) =
       (c : Call) × (level < fuel) × RunsIn runs s slots.frames level c mark × Waits waits s slots fuel root (suc level) c
 
-  -- besides, the fuel is a number of 32 bits, and each level has a frame and a mark
+  -- besides, the fuel is a number of 32 bits, and each level has a mark and a frame with room
   pub record AtTurn (s : Standing) (slots : Slots Frame Mark) (fuel : ℕ) (root : Call) (level : ℕ) (next : Step Mark) : Type 0 where
-    pub fits : fuel < 2 ^ 32
+    pub small : fuel < 2 ^ 32
     pub frames : fuel ≤ length slots.frames
     pub marks : fuel ≤ length slots.marks
+    pub rooms : HaveRoom fits slots.frames
     pub turn : IsTurn s slots fuel root level next
 
 -- why there is no answer

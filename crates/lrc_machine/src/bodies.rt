@@ -55,6 +55,9 @@ pub trait Bodies<St: Store> {
     // A body of the first call, with fuel n + 1, waits at the mark for the second call, which is to be made with fuel n.
     ghost waits: { Self → Standing → Self.Frame → ℕ → Call → Self.Mark → Call → Type 0 };
 
+    // The frame has room for each body.
+    ghost fits: { Self → Self.Frame → Type 0 };
+
     // How many actions a body has left at the mark, and how many one has at most.
     ghost left: { Self → Self.Mark → ℕ };
 
@@ -69,7 +72,9 @@ pub trait Bodies<St: Store> {
         level: u32,
         call: Handle,
     ) -> Opened<Self::Mark>
+        requires room { fits self.now frame.old }
         requires call { (c : Call) × asks self.now (St.state store.old) c call.0 }
+        ensures room { fits self.now frame.new }
         ensures gains { (c : Call) → asks self.now (St.state store.old) c call.0 → Gains (St.state store.old) (St.state store.new) (meets self.now (suc level) c) }
         ensures opens { (c : Call) → asks self.now (St.state store.old) c call.0 → Opens (gives self.now (St.state store.new) (suc level) c) (λ m. runs self.now (St.state store.new) frame.new level c m × (left self.now m ≤ most self.now)) (lacks self.now (suc level) c) result }
         ensures same_meaning { St.meaning store.new ≡ St.meaning store.old };
@@ -86,7 +91,9 @@ pub trait Bodies<St: Store> {
         level: u32,
         mark: Self::Mark,
     ) -> Result<Moved<Self::Mark>, Full>
+        requires room { fits self.now frame.old }
         requires body { (c : Call) × runs self.now (St.state store.old) frame.old level c mark }
+        ensures room { fits self.now frame.new }
         ensures gains { (c : Call) → runs self.now (St.state store.old) frame.old level c mark → Gains (St.state store.old) (St.state store.new) (meets self.now (suc level) c) }
         ensures moves { (c : Call) → runs self.now (St.state store.old) frame.old level c mark → IfOk result (Moves (λ m. runs self.now (St.state store.new) frame.new level c m × (left self.now m < left self.now mark)) (λ m h. (d : Call) × waits self.now (St.state store.new) frame.new level c m d × asks self.now (St.state store.new) d h × (1 ≤ left self.now m) × (left self.now m ≤ left self.now mark)) (gives self.now (St.state store.new) (suc level) c) (lacks self.now (suc level) c)) }
         ensures full { (c : Call) → runs self.now (St.state store.old) frame.old level c mark → OnErr result (LacksOne (St.state store.new) (meets self.now (suc level) c)) }
@@ -101,7 +108,9 @@ pub trait Bodies<St: Store> {
         mark: Self::Mark,
         given: Handle,
     ) -> Self::Mark
+        requires room { fits self.now frame.old }
         requires body { (c : Call) × (d : Call) × waits self.now (St.state store.old) frame.old level c mark d × gives self.now (St.state store.old) level d given.0 }
+        ensures room { fits self.now frame.new }
         ensures gains { (c d : Call) → waits self.now (St.state store.old) frame.old level c mark d → gives self.now (St.state store.old) level d given.0 → Gains (St.state store.old) (St.state store.new) (meets self.now (suc level) c) }
         ensures runs { (c d : Call) → waits self.now (St.state store.old) frame.old level c mark d → gives self.now (St.state store.old) level d given.0 → runs self.now (St.state store.new) frame.new level c result × (left self.now result < left self.now mark) }
         ensures same_meaning { St.meaning store.new ≡ St.meaning store.old };

@@ -1,4 +1,4 @@
-ghost use Rattle.std.specs.Prelude.{◌≡◌, ◌≤◌, ◌<◌, ℕ, suc, length, IfOk, IfErr, OnErr};
+ghost use Rattle.std.specs.Prelude.{◌≡◌, ◌≤◌, ◌<◌, ℕ, suc, length, Ok, IfOk, IfErr, OnErr};
 ghost use Rattle.lrc_visit_meaning.specs.Values.{Call};
 ghost use Rattle.lrc_store.specs.Words.{Gains, LacksOne};
 ghost use Rattle.lrc_machine.specs.Machine.{AtTurn, Turns};
@@ -51,8 +51,8 @@ fn opened<St: Store, B: Bodies<St>>(
     level: u32,
     inner: Handle,
 ) -> Result<Turn<B::Mark>, Stop>
-    requires turn { (fuel : ℕ) × (root : Call) × AtTurn (B.asks bodies.now) (B.gives bodies.now) (B.runs bodies.now) (B.waits bodies.now) (St.state store.old) (slots_of levels.old) fuel root level (step.Open inner) }
-    ensures turns { (fuel : ℕ) (root : Call) → AtTurn (B.asks bodies.now) (B.gives bodies.now) (B.runs bodies.now) (B.waits bodies.now) (St.state store.old) (slots_of levels.old) fuel root level (step.Open inner) → Turns (AtTurn (B.asks bodies.now) (B.gives bodies.now) (B.runs bodies.now) (B.waits bodies.now) (St.state store.new) (slots_of levels.new) fuel root) (St.state store.old) (St.state store.new) (B.meets bodies.now fuel root) (B.lacks bodies.now fuel root) result }
+    requires turn { (fuel : ℕ) × (root : Call) × AtTurn (B.asks bodies.now) (B.gives bodies.now) (B.runs bodies.now) (B.waits bodies.now) (B.fits bodies.now) (St.state store.old) (slots_of levels.old) fuel root level (step.Open inner) }
+    ensures turns { (fuel : ℕ) (root : Call) → AtTurn (B.asks bodies.now) (B.gives bodies.now) (B.runs bodies.now) (B.waits bodies.now) (B.fits bodies.now) (St.state store.old) (slots_of levels.old) fuel root level (step.Open inner) → Turns (AtTurn (B.asks bodies.now) (B.gives bodies.now) (B.runs bodies.now) (B.waits bodies.now) (B.fits bodies.now) (St.state store.new) (slots_of levels.new) fuel root) (St.state store.old) (St.state store.new) (B.meets bodies.now fuel root) (B.lacks bodies.now fuel root) result }
     ensures falls { IfOk result (λ turn. measure (B.left bodies.now) (B.most bodies.now) levels.new.marks.items turn.level turn.step < measure (B.left bodies.now) (B.most bodies.now) levels.old.marks.items level (step.Open inner)) }
     ensures same_meaning { St.meaning store.new ≡ St.meaning store.old }
 {
@@ -81,8 +81,8 @@ fn advanced<St: Store, B: Bodies<St>>(
     level: u32,
     mark: B::Mark,
 ) -> Result<Turn<B::Mark>, Stop>
-    requires turn { (fuel : ℕ) × (root : Call) × AtTurn (B.asks bodies.now) (B.gives bodies.now) (B.runs bodies.now) (B.waits bodies.now) (St.state store.old) (slots_of levels.old) fuel root level (step.Go mark) }
-    ensures turns { (fuel : ℕ) (root : Call) → AtTurn (B.asks bodies.now) (B.gives bodies.now) (B.runs bodies.now) (B.waits bodies.now) (St.state store.old) (slots_of levels.old) fuel root level (step.Go mark) → Turns (AtTurn (B.asks bodies.now) (B.gives bodies.now) (B.runs bodies.now) (B.waits bodies.now) (St.state store.new) (slots_of levels.new) fuel root) (St.state store.old) (St.state store.new) (B.meets bodies.now fuel root) (B.lacks bodies.now fuel root) result }
+    requires turn { (fuel : ℕ) × (root : Call) × AtTurn (B.asks bodies.now) (B.gives bodies.now) (B.runs bodies.now) (B.waits bodies.now) (B.fits bodies.now) (St.state store.old) (slots_of levels.old) fuel root level (step.Go mark) }
+    ensures turns { (fuel : ℕ) (root : Call) → AtTurn (B.asks bodies.now) (B.gives bodies.now) (B.runs bodies.now) (B.waits bodies.now) (B.fits bodies.now) (St.state store.old) (slots_of levels.old) fuel root level (step.Go mark) → Turns (AtTurn (B.asks bodies.now) (B.gives bodies.now) (B.runs bodies.now) (B.waits bodies.now) (B.fits bodies.now) (St.state store.new) (slots_of levels.new) fuel root) (St.state store.old) (St.state store.new) (B.meets bodies.now fuel root) (B.lacks bodies.now fuel root) result }
     ensures falls { IfOk result (λ turn. measure (B.left bodies.now) (B.most bodies.now) levels.new.marks.items turn.level turn.step < measure (B.left bodies.now) (B.most bodies.now) levels.old.marks.items level (step.Go mark)) }
     ensures same_meaning { St.meaning store.new ≡ St.meaning store.old }
 {
@@ -108,5 +108,27 @@ fn advanced<St: Store, B: Bodies<St>>(
             step: Step::Answer(given),
         }),
         Moved::Deep => Err(Stop::Deep),
+    }
+}
+
+/// Takes the result for which the body of a level waits.
+fn resumed<St: Store, B: Bodies<St>>(
+    bodies: &B,
+    store: &mut St,
+    levels: &mut Levels<B::Frame, B::Mark>,
+    level: u32,
+    given: Handle,
+) -> Turn<B::Mark>
+    requires turn { (fuel : ℕ) × (root : Call) × (level < fuel) × AtTurn (B.asks bodies.now) (B.gives bodies.now) (B.runs bodies.now) (B.waits bodies.now) (B.fits bodies.now) (St.state store.old) (slots_of levels.old) fuel root level (step.Answer given) }
+    ensures turns { (fuel : ℕ) (root : Call) → level < fuel → AtTurn (B.asks bodies.now) (B.gives bodies.now) (B.runs bodies.now) (B.waits bodies.now) (B.fits bodies.now) (St.state store.old) (slots_of levels.old) fuel root level (step.Answer given) → Turns (AtTurn (B.asks bodies.now) (B.gives bodies.now) (B.runs bodies.now) (B.waits bodies.now) (B.fits bodies.now) (St.state store.new) (slots_of levels.new) fuel root) (St.state store.old) (St.state store.new) (B.meets bodies.now fuel root) (B.lacks bodies.now fuel root) (Ok result) }
+    ensures falls { measure (B.left bodies.now) (B.most bodies.now) levels.new.marks.items result.level result.step < measure (B.left bodies.now) (B.most bodies.now) levels.old.marks.items level (step.Answer given) }
+    ensures same_meaning { St.meaning store.new ≡ St.meaning store.old }
+{
+    let mark = levels.marks[level as usize];
+    let frame = &mut levels.frames[level as usize];
+    let next = bodies.resume(store, frame, level, mark, given);
+    Turn {
+        level,
+        step: Step::Go(next),
     }
 }

@@ -7,7 +7,7 @@ use Rattle.lrc_machine.proofs.turns.opened.Goals as goal
 pub returns-then-level-eq0-clause-turns : goal.returns-then-level-eq0-clause-turns
 returns-then-level-eq0-clause-turns g c fuel root turn =
     let b = c.args.bodies.now in
-    no_level (g.B.Bodies.asks b) (g.B.Bodies.gives b) (g.B.Bodies.runs b) (g.B.Bodies.waits b) (g.B.Bodies.lacks b) (g.B.Bodies.meets b)
+    no_level (g.B.Bodies.asks b) (g.B.Bodies.gives b) (g.B.Bodies.runs b) (g.B.Bodies.waits b) (g.B.Bodies.fits b) (g.B.Bodies.lacks b) (g.B.Bodies.meets b)
     (g.met.B.Bodies.lasts b) (g.met.B.Bodies.deep b) (g.met.B.Bodies.within b) fuel root c.args.levels.now.frames.items c.args.levels.now.marks.items
     (g.met.B.Bodies.bottom b) (g.St.Store.state c.args.store.now) c.args.level c.args.inner c.if-level-eq0.true turn
 
@@ -16,9 +16,9 @@ returns-in-Hit-clause-turns g c fuel root turn =
     let b = c.args.bodies.now in
     let low = c.if-level-eq0.false in
     let at : c.args.level ≡ suc (c.args.level - 1) = omega arith in
-    opened_hit (g.B.Bodies.asks b) (g.B.Bodies.gives b) (g.B.Bodies.runs b) (g.B.Bodies.waits b) (g.B.Bodies.lacks b) (g.B.Bodies.meets b)
+    opened_hit (g.B.Bodies.asks b) (g.B.Bodies.gives b) (g.B.Bodies.runs b) (g.B.Bodies.waits b) (g.B.Bodies.fits b) (g.B.Bodies.lacks b) (g.B.Bodies.meets b)
     (g.met.B.Bodies.lasts b) (g.met.B.Bodies.deep b) (g.met.B.Bodies.within b) fuel root c.args.levels.now.frames.items c.args.levels.now.marks.items
-    (g.St.Store.state c.args.store.now) (g.St.Store.state c.open.new.store) (c.args.level - 1) c.args.level at c.args.inner c.open.new.frame turn c.in-Hit.given
+    (g.St.Store.state c.args.store.now) (g.St.Store.state c.open.new.store) (c.args.level - 1) c.args.level at c.args.inner c.open.new.frame c.open.ensures.room turn c.in-Hit.given
     (c.open.ensures.gains turn.turn.0 turn.turn.1) (c.in-Hit.ensures.opens turn.turn.0 turn.turn.1)
 
 pub returns-in-Begun-clause-turns : goal.returns-in-Begun-clause-turns
@@ -26,9 +26,9 @@ returns-in-Begun-clause-turns g c fuel root turn =
     let b = c.args.bodies.now in
     let low = c.if-level-eq0.false in
     let at : c.args.level ≡ suc (c.args.level - 1) = omega arith in
-    opened_begun (g.B.Bodies.asks b) (g.B.Bodies.gives b) (g.B.Bodies.runs b) (g.B.Bodies.waits b) (g.B.Bodies.lacks b) (g.B.Bodies.meets b)
+    opened_begun (g.B.Bodies.asks b) (g.B.Bodies.gives b) (g.B.Bodies.runs b) (g.B.Bodies.waits b) (g.B.Bodies.fits b) (g.B.Bodies.lacks b) (g.B.Bodies.meets b)
     (g.met.B.Bodies.lasts b) (g.met.B.Bodies.deep b) (g.met.B.Bodies.within b) fuel root c.args.levels.now.frames.items c.args.levels.now.marks.items
-    (g.St.Store.state c.args.store.now) (g.St.Store.state c.open.new.store) (c.args.level - 1) c.args.level at c.args.inner c.open.new.frame turn c.in-Begun.mark
+    (g.St.Store.state c.args.store.now) (g.St.Store.state c.open.new.store) (c.args.level - 1) c.args.level at c.args.inner c.open.new.frame c.open.ensures.room turn c.in-Begun.mark
     (c.open.ensures.gains turn.turn.0 turn.turn.1) (c.in-Begun.ensures.opens turn.turn.0 turn.turn.1).0
 
 pub returns-in-Deep-clause-turns : goal.returns-in-Deep-clause-turns
@@ -36,9 +36,9 @@ returns-in-Deep-clause-turns g c fuel root turn =
     let b = c.args.bodies.now in
     let low = c.if-level-eq0.false in
     let at : c.args.level ≡ suc (c.args.level - 1) = omega arith in
-    opened_deep (g.B.Bodies.asks b) (g.B.Bodies.gives b) (g.B.Bodies.runs b) (g.B.Bodies.waits b) (g.B.Bodies.lacks b) (g.B.Bodies.meets b)
+    opened_deep (g.B.Bodies.asks b) (g.B.Bodies.gives b) (g.B.Bodies.runs b) (g.B.Bodies.waits b) (g.B.Bodies.fits b) (g.B.Bodies.lacks b) (g.B.Bodies.meets b)
     (g.met.B.Bodies.lasts b) (g.met.B.Bodies.deep b) (g.met.B.Bodies.within b) fuel root c.args.levels.now.frames.items c.args.levels.now.marks.items
-    (g.St.Store.state c.args.store.now) (g.St.Store.state c.open.new.store) (c.args.level - 1) c.args.level at c.args.inner c.open.new.frame turn 
+    (g.St.Store.state c.args.store.now) (g.St.Store.state c.open.new.store) (c.args.level - 1) c.args.level at c.args.inner c.open.new.frame c.open.ensures.room turn 
     (c.open.ensures.gains turn.turn.0 turn.turn.1) (c.in-Deep.ensures.opens turn.turn.0 turn.turn.1)
 
 pub returns-in-Hit-clause-falls : goal.returns-in-Hit-clause-falls
