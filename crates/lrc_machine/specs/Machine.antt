@@ -57,6 +57,12 @@ module _ {Frame Mark : Type 0} (asks : Standing → Call → ℕ → Type 0) (gi
     pub rooms : HaveRoom fits slots.frames
     pub turn : IsTurn s slots fuel root level next
 
+-- a result that is there is not the root's
+abbrev pub IsInner : {Mark : Type 0} → ℕ → ℕ → Step Mark → Type 0
+IsInner fuel level (step.Open handle) = Unit {0}
+IsInner fuel level (step.Answer handle) = level < fuel
+IsInner fuel level (step.Go mark) = Unit {0}
+
 -- why there is no answer
 abbrev pub Stops : Standing → List CellTree → Type 0 → Stop → Type 0
 Stops t cells lacking stop.Full = LacksOne t cells

@@ -5,7 +5,9 @@
 #![tactic(auto)]
 
 mod bodies;
+mod running;
 mod turns;
 
 pub use bodies::{Bodies, Moved, Opened};
+pub use running::run;
 pub use turns::{Levels, Stop};

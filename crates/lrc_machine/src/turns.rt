@@ -1,7 +1,7 @@
 ghost use Rattle.std.specs.Prelude.{◌≡◌, ◌≤◌, ◌<◌, ℕ, suc, length, Ok, IfOk, IfErr, OnErr};
 ghost use Rattle.lrc_visit_meaning.specs.Values.{Call};
 ghost use Rattle.lrc_store.specs.Words.{Gains, LacksOne};
-ghost use Rattle.lrc_machine.specs.Machine.{AtTurn, Turns};
+ghost use Rattle.lrc_machine.specs.Machine.{IsInner, AtTurn, Turns};
 ghost use Rattle.lrc_machine.specs.Levels.{slots_of};
 ghost use Rattle.lrc_machine.specs.declared.turns.Step.TheVariants as step;
 ghost use Rattle.lrc_machine.specs.Measure.{measure};
@@ -130,5 +130,24 @@ fn resumed<St: Store, B: Bodies<St>>(
     Turn {
         level,
         step: Step::Go(next),
+    }
+}
+
+/// The turn behind one that is not the end.
+pub(crate) fn next<St: Store, B: Bodies<St>>(
+    bodies: &B,
+    store: &mut St,
+    levels: &mut Levels<B::Frame, B::Mark>,
+    turn: Turn<B::Mark>,
+) -> Result<Turn<B::Mark>, Stop>
+    requires turn { (fuel : ℕ) × (root : Call) × IsInner fuel turn.level turn.step × AtTurn (B.asks bodies.now) (B.gives bodies.now) (B.runs bodies.now) (B.waits bodies.now) (B.fits bodies.now) (St.state store.old) (slots_of levels.old) fuel root turn.level turn.step }
+    ensures turns { (fuel : ℕ) (root : Call) → IsInner fuel turn.level turn.step → AtTurn (B.asks bodies.now) (B.gives bodies.now) (B.runs bodies.now) (B.waits bodies.now) (B.fits bodies.now) (St.state store.old) (slots_of levels.old) fuel root turn.level turn.step → Turns (AtTurn (B.asks bodies.now) (B.gives bodies.now) (B.runs bodies.now) (B.waits bodies.now) (B.fits bodies.now) (St.state store.new) (slots_of levels.new) fuel root) (St.state store.old) (St.state store.new) (B.meets bodies.now fuel root) (B.lacks bodies.now fuel root) result }
+    ensures falls { IfOk result (λ next. measure (B.left bodies.now) (B.most bodies.now) levels.new.marks.items next.level next.step < measure (B.left bodies.now) (B.most bodies.now) levels.old.marks.items turn.level turn.step) }
+    ensures same_meaning { St.meaning store.new ≡ St.meaning store.old }
+{
+    match turn.step {
+        Step::Open(inner) => opened(bodies, store, levels, turn.level, inner),
+        Step::Answer(given) => Ok(resumed(bodies, store, levels, turn.level, given)),
+        Step::Go(mark) => advanced(bodies, store, levels, turn.level, mark),
     }
 }
