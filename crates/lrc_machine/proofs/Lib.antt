@@ -2,3 +2,4 @@ pub mod WaitLemmas
 pub mod MeasureLemmas
 pub mod MoveLemmas
 pub mod TurnLemmas
+pub mod RunLemmas
