@@ -1,0 +1,5 @@
+pub mod WaitLemmas
+pub mod MeasureLemmas
+pub mod MoveLemmas
+pub mod TurnLemmas
+pub mod RunLemmas

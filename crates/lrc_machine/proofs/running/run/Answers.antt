@@ -1,0 +1,85 @@
+use Rattle.std.proofs.Common.{◌≡◌, ℕ, ◌<◌, ◌≤◌, refl, sym, ap, ◌∙◌, subst, arith}
+use Rattle.std.proofs.lemmas.Result.{IfOk-at_ok, IfErr-at_err}
+use Rattle.lrc_store.proofs.Lasting.{gains-same, gains-then}
+use Rattle.lrc_machine.specs.Machine.{whole, IsInner, AtTurn, Stops}
+use Rattle.lrc_machine.specs.Levels.{slots_of}
+use Rattle.lrc_machine.proofs.RunLemmas.{is_inner, is_below, is_given}
+use Rattle.lrc_machine.proofs.running.run.Goals as goal
+use Rattle.lrc_machine.proofs.running.run.Goals.{in-Answer+else-turn-fuel, in_default}
+
+pub turns-init : goal.turns-init
+turns-init g c =
+    let small = c.ranges.fuel.fits in
+    record {
+      gains = λ root asked. gains-same (g.St.Store.state c.args.store.now) (g.B.Bodies.meets c.args.bodies.now c.args.fuel root);
+      at = λ root asked. record { small = small; frames = c.requires.frames; marks = c.requires.marks; rooms = c.requires.rooms; turn = (root, asked, whole refl refl) };
+      same_meaning = refl;
+    }
+
+pub returns-then-turn-fuel-clause-gives : goal.returns-then-turn-fuel-clause-gives
+returns-then-turn-fuel-clause-gives g c root asked =
+    let b = c.args.bodies.now in
+    is_given (g.B.Bodies.asks b) (g.B.Bodies.gives b) (g.B.Bodies.runs b) (g.B.Bodies.waits b) (g.B.Bodies.fits b) (g.St.Store.state c.turns.store) (slots_of c.turns.levels)
+    c.args.fuel root c.turns.turn.level c.turns.turn.step (c.turns.invariant.at root asked) c.in-Answer.given c.in-Answer.is c.if-turn-fuel.true
+
+pub returns-in-Err-clause-gains : goal.returns-in-Err-clause-gains
+returns-in-Err-clause-gains g c root asked =
+    let b = c.args.bodies.now in
+    let at = c.turns.invariant.at root asked in
+    let inner : IsInner c.args.fuel c.turns.turn.level c.turns.turn.step =
+    elim c.match-turn.branch [
+      | in-Answer+else-turn-fuel w ↦
+          is_inner c.args.fuel c.turns.turn.level c.turns.turn.step
+          (λ handle is. is_below (g.B.Bodies.asks b) (g.B.Bodies.gives b) (g.B.Bodies.runs b) (g.B.Bodies.waits b) (g.B.Bodies.fits b) (g.St.Store.state c.turns.store) (slots_of c.turns.levels)
+          c.args.fuel root c.turns.turn.level c.turns.turn.step at handle is w.if-turn-fuel.false)
+      | in_default w ↦ is_inner c.args.fuel c.turns.turn.level c.turns.turn.step (λ handle is. absurd (w.in_default.not-Answer handle is))
+    ] in
+    let turns = c.next.ensures.turns c.args.fuel root inner at in
+    gains-then (g.St.Store.state c.args.store.now) (g.St.Store.state c.turns.store) (g.St.Store.state c.next.new.store) (g.B.Bodies.meets b c.args.fuel root) (c.turns.invariant.gains root asked) turns.gains
+
+pub returns-in-Err-clause-stops : goal.returns-in-Err-clause-stops
+returns-in-Err-clause-stops g c root asked =
+    let b = c.args.bodies.now in
+    let at = c.turns.invariant.at root asked in
+    let inner : IsInner c.args.fuel c.turns.turn.level c.turns.turn.step =
+    elim c.match-turn.branch [
+      | in-Answer+else-turn-fuel w ↦
+          is_inner c.args.fuel c.turns.turn.level c.turns.turn.step
+          (λ handle is. is_below (g.B.Bodies.asks b) (g.B.Bodies.gives b) (g.B.Bodies.runs b) (g.B.Bodies.waits b) (g.B.Bodies.fits b) (g.St.Store.state c.turns.store) (slots_of c.turns.levels)
+          c.args.fuel root c.turns.turn.level c.turns.turn.step at handle is w.if-turn-fuel.false)
+      | in_default w ↦ is_inner c.args.fuel c.turns.turn.level c.turns.turn.step (λ handle is. absurd (w.in_default.not-Answer handle is))
+    ] in
+    let turns = c.next.ensures.turns c.args.fuel root inner at in
+    IfErr-at_err (Stops (g.St.Store.state c.next.new.store) (g.B.Bodies.meets b c.args.fuel root) (g.B.Bodies.lacks b c.args.fuel root)) c.in-Err.is turns.stop
+
+pub turns-preserved : goal.turns-preserved
+turns-preserved g c =
+    record {
+      gains = λ root asked.
+    let b = c.args.bodies.now in
+    let at = c.turns.invariant.at root asked in
+    let inner : IsInner c.args.fuel c.turns.turn.level c.turns.turn.step =
+    elim c.match-turn.branch [
+      | in-Answer+else-turn-fuel w ↦
+          is_inner c.args.fuel c.turns.turn.level c.turns.turn.step
+          (λ handle is. is_below (g.B.Bodies.asks b) (g.B.Bodies.gives b) (g.B.Bodies.runs b) (g.B.Bodies.waits b) (g.B.Bodies.fits b) (g.St.Store.state c.turns.store) (slots_of c.turns.levels)
+          c.args.fuel root c.turns.turn.level c.turns.turn.step at handle is w.if-turn-fuel.false)
+      | in_default w ↦ is_inner c.args.fuel c.turns.turn.level c.turns.turn.step (λ handle is. absurd (w.in_default.not-Answer handle is))
+    ] in
+    let turns = c.next.ensures.turns c.args.fuel root inner at in
+      gains-then (g.St.Store.state c.args.store.now) (g.St.Store.state c.turns.store) (g.St.Store.state c.next.new.store) (g.B.Bodies.meets b c.args.fuel root) (c.turns.invariant.gains root asked) turns.gains;
+      at = λ root asked.
+    let b = c.args.bodies.now in
+    let at = c.turns.invariant.at root asked in
+    let inner : IsInner c.args.fuel c.turns.turn.level c.turns.turn.step =
+    elim c.match-turn.branch [
+      | in-Answer+else-turn-fuel w ↦
+          is_inner c.args.fuel c.turns.turn.level c.turns.turn.step
+          (λ handle is. is_below (g.B.Bodies.asks b) (g.B.Bodies.gives b) (g.B.Bodies.runs b) (g.B.Bodies.waits b) (g.B.Bodies.fits b) (g.St.Store.state c.turns.store) (slots_of c.turns.levels)
+          c.args.fuel root c.turns.turn.level c.turns.turn.step at handle is w.if-turn-fuel.false)
+      | in_default w ↦ is_inner c.args.fuel c.turns.turn.level c.turns.turn.step (λ handle is. absurd (w.in_default.not-Answer handle is))
+    ] in
+    let turns = c.next.ensures.turns c.args.fuel root inner at in
+      IfOk-at_ok (λ turn. AtTurn (g.B.Bodies.asks b) (g.B.Bodies.gives b) (g.B.Bodies.runs b) (g.B.Bodies.waits b) (g.B.Bodies.fits b) (g.St.Store.state c.next.new.store) (slots_of c.next.new.levels) c.args.fuel root turn.level turn.step) c.in-Ok.is turns.ok;
+      same_meaning = c.next.ensures.same_meaning ∙ c.turns.invariant.same_meaning;
+    }

@@ -1,0 +1,4 @@
+pub mod Steps
+pub mod Machine
+pub mod Levels
+pub mod Measure

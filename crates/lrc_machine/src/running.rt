@@ -1,0 +1,48 @@
+ghost use Rattle.std.specs.Prelude.{◌≡◌, ◌≤◌, ◌<◌, ◌^◌, length, IfOk, IfErr};
+ghost use Rattle.lrc_visit_meaning.specs.Values.{Call};
+ghost use Rattle.lrc_store.specs.Words.{Gains};
+ghost use Rattle.lrc_machine.specs.Machine.{HaveRoom, Stops};
+
+use crate::bodies::Bodies;
+use crate::turns::{Levels, Step, Stop, Turn, next};
+use lrc_store::{Handle, Store};
+
+/// The result of a call with so much fuel. Its body, and those of the visits that are made for it, run
+/// on levels below the fuel, of which there have to be as many. No memory is taken.
+///
+/// # Errors
+///
+/// Deep, only where the call has no result with this fuel, and Full, only where all rows are used and
+/// a cell of what the call meets is in none.
+pub fn run<St: Store, B: Bodies<St>>(
+    bodies: &B,
+    store: &mut St,
+    levels: &mut Levels<B::Frame, B::Mark>,
+    call: Handle,
+    fuel: u32,
+) -> Result<Handle, Stop>
+    requires call { (c : Call) × B.asks bodies.now (St.state store.old) c call.0 }
+    requires frames { fuel ≤ length levels.old.frames.items }
+    requires marks { fuel ≤ length levels.old.marks.items }
+    requires rooms { HaveRoom (B.fits bodies.now) levels.old.frames.items }
+    ensures gains { (c : Call) → B.asks bodies.now (St.state store.old) c call.0 → Gains (St.state store.old) (St.state store.new) (B.meets bodies.now fuel c) }
+    ensures gives { (c : Call) → B.asks bodies.now (St.state store.old) c call.0 → IfOk result (λ given. B.gives bodies.now (St.state store.new) fuel c given.0) }
+    ensures stops { (c : Call) → B.asks bodies.now (St.state store.old) c call.0 → IfErr result (Stops (St.state store.new) (B.meets bodies.now fuel c) (B.lacks bodies.now fuel c)) }
+    ensures same_meaning { St.meaning store.new ≡ St.meaning store.old }
+{
+    let mut turn = Turn {
+        level: fuel,
+        step: Step::Open(call),
+    };
+    'turns: loop {
+        if let Step::Answer(given) = turn.step {
+            if turn.level == fuel {
+                return Ok(given);
+            }
+        }
+        turn = match next(bodies, store, levels, turn) {
+            Ok(turn) => turn,
+            Err(stop) => return Err(stop),
+        };
+    }
+}
