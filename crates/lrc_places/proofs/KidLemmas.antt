@@ -42,23 +42,24 @@ among-child (more t ts) (suc n) steps = among-child ts n steps
 abbrev pub IsOnPath : Standing → Option Tree → List ℕ → Handle → Type 0
 IsOnPath s wanted left here = (part : Tree) × (wanted ≡ at_place part left) × Stands s here.0 (tree_cell part)
 
-next-step : (steps : List ℕ) (i step : ℕ) → i < length steps → step ≡ get_or steps i step → drop i steps ≡ step ∷ drop (i + 1) steps
-next-step steps i step h e = rw add-one (drop-cons steps i step h ∙ ap (λ s. s ∷ drop (suc i) steps) (sym e))
+next-step : (steps : List ℕ) (i : ℕ) → i < length steps → drop i steps ≡ get_or steps i 0 ∷ drop (i + 1) steps
+next-step steps i h = rw add-one (drop-cons steps i 0 h)
 
-pub no-step : (wanted : Option Tree) (part : Tree) (kind : Kind) (steps : List ℕ) (i step : ℕ) → i < length steps → step ≡ get_or steps i step → wanted ≡ at_place part (drop i steps) → kind_of_leaf part ≡ Some kind → wanted ≡ None
-no-step wanted part kind steps i step h e is leaf = is ∙ ap (at_place part) (next-step steps i step h e) ∙ leaf-place part kind step (drop (i + 1) steps) leaf
+-- a leaf has no child for a step
+pub no-step : (wanted : Option Tree) (part : Tree) (kind : Kind) (steps : List ℕ) (i : ℕ) → i < length steps → wanted ≡ at_place part (drop i steps) → kind_of_leaf part ≡ Some kind → wanted ≡ None
+no-step wanted part kind steps i h is leaf = is ∙ ap (at_place part) (next-step steps i h) ∙ leaf-place part kind (get_or steps i 0) (drop (i + 1) steps) leaf
 
--- a step is taken, to the child that was found
-stepped : (wanted : Option Tree) (part : Tree) (p : ℕ) (kids : Trees) (child : Option Tree) (steps : List ℕ) (i step : ℕ) → i < length steps → step ≡ get_or steps i step → wanted ≡ at_place part (drop i steps) → part ≡ node p kids →
-    slice_get (in_order kids) step ≡ child → wanted ≡ option_and_then (λ kid. at_place kid (drop (i + 1) steps)) child
-stepped wanted part p kids child steps i step h e is of found =
-    is ∙ ap (at_place part) (next-step steps i step h e) ∙ ap (λ t. at_place t (step ∷ drop (i + 1) steps)) of
-    ∙ among-child kids step (drop (i + 1) steps) ∙ ap (option_and_then (λ kid. at_place kid (drop (i + 1) steps))) found
+-- a step of a node leads to the child of its number, or nowhere
+stepped : (wanted : Option Tree) (part : Tree) (p : ℕ) (kids : Trees) (child : Option Tree) (steps : List ℕ) (i : ℕ) → i < length steps → wanted ≡ at_place part (drop i steps) → part ≡ node p kids →
+    slice_get (in_order kids) (get_or steps i 0) ≡ child → wanted ≡ option_and_then (λ kid. at_place kid (drop (i + 1) steps)) child
+stepped wanted part p kids child steps i h is of found =
+    is ∙ ap (at_place part) (next-step steps i h) ∙ ap (λ t. at_place t (get_or steps i 0 ∷ drop (i + 1) steps)) of
+    ∙ among-child kids (get_or steps i 0) (drop (i + 1) steps) ∙ ap (option_and_then (λ kid. at_place kid (drop (i + 1) steps))) found
 
-pub step-missing : (wanted : Option Tree) (part : Tree) (p : ℕ) (kids : Trees) (steps : List ℕ) (i step : ℕ) → i < length steps → step ≡ get_or steps i step → wanted ≡ at_place part (drop i steps) → part ≡ node p kids →
-    slice_get (in_order kids) step ≡ None → wanted ≡ None
-step-missing wanted part p kids steps i step h e is of found = stepped wanted part p kids None steps i step h e is of found
+pub step-missing : (wanted : Option Tree) (part : Tree) (p : ℕ) (kids : Trees) (steps : List ℕ) (i : ℕ) → i < length steps → wanted ≡ at_place part (drop i steps) → part ≡ node p kids →
+    slice_get (in_order kids) (get_or steps i 0) ≡ None → wanted ≡ None
+step-missing wanted part p kids steps i h is of found = stepped wanted part p kids None steps i h is of found
 
-pub step-taken : (s : Standing) (wanted : Option Tree) (part : Tree) (p : ℕ) (kids : Trees) (steps : List ℕ) (i step : ℕ) (kid : Handle) → i < length steps → step ≡ get_or steps i step → wanted ≡ at_place part (drop i steps) → part ≡ node p kids →
-    FindsPart s (slice_get (in_order kids) step) (Some kid) → IsOnPath s wanted (drop (i + 1) steps) kid
-step-taken s wanted part p kids steps i step kid h e is of (child, found, stands) = (child, stepped wanted part p kids (Some child) steps i step h e is of found, stands)
+pub step-taken : (s : Standing) (wanted : Option Tree) (part : Tree) (p : ℕ) (kids : Trees) (steps : List ℕ) (i : ℕ) (kid : Handle) → i < length steps → wanted ≡ at_place part (drop i steps) → part ≡ node p kids →
+    FindsPart s (slice_get (in_order kids) (get_or steps i 0)) (Some kid) → IsOnPath s wanted (drop (i + 1) steps) kid
+step-taken s wanted part p kids steps i kid h is of (child, found, stands) = (child, stepped wanted part p kids (Some child) steps i h is of found, stands)
