@@ -1,5 +1,5 @@
 -- Children by number, and parts by steps, in a store that is only read.
-use Rattle.std.proofs.Common.{◌≡◌, ℕ, zero, suc, ◌+◌, ◌-◌, ◌<◌, ◌≤◌, List, [], ◌∷◌, length, drop, get_or, slice_get, Option, Some, None, refl, sym, ap, ◌∙◌, arith, add-one, drop-cons}
+use Rattle.std.proofs.Common.{◌≡◌, ℕ, zero, suc, ◌+◌, ◌-◌, ◌<◌, List, ◌∷◌, length, drop, get_or, slice_get, Option, Some, None, refl, ap, ◌∙◌, arith, add-one, drop-cons}
 use Rattle.std.specs.Option.{option_and_then}
 use Rattle.lrc_base.specs.declared.grammar.Kind.{Kind}
 use Rattle.lrc_meaning.specs.Tree.{Tree, Trees, node, none, more, in_order, at_place, among}
@@ -19,17 +19,10 @@ IsBehind s wanted passed items = (first : Tree) × (rest : Trees) × (wanted ≡
 pub first-behind : (s : Standing) (ts : Trees) (wanted : Option Tree) (n : ℕ) (items : Items) → wanted ≡ slice_get (in_order ts) n → ShowsFirst s ts (Some items) → IsBehind s wanted n items
 first-behind s ts wanted n items e (first, rest, is, stands, others) = (first, rest, e ∙ ap (λ us. slice_get (in_order us) n) is, stands, others)
 
-pub none-behind : (ts : Trees) (wanted : Option Tree) (n : ℕ) → wanted ≡ slice_get (in_order ts) n → ts ≡ none → wanted ≡ None
-none-behind ts wanted n e is = e ∙ ap (λ us. slice_get (in_order us) n) is
-
 -- one child is passed
 pub passed-on : (wanted : Option Tree) (first : Tree) (rest : Trees) (n passed : ℕ) → passed < n → wanted ≡ slice_get (first ∷ in_order rest) (n - passed) → wanted ≡ slice_get (in_order rest) (n - (passed + 1))
 passed-on wanted first rest n passed h e =
     let more : n - passed ≡ suc (n - (passed + 1)) = omega (arith, h) in e ∙ ap (slice_get (first ∷ in_order rest)) more
-
-pub child-found : (s : Standing) (wanted : Option Tree) (n passed : ℕ) (items : Items) → n ≤ passed → IsBehind s wanted (n - passed) items → FindsPart s wanted (Some items.first)
-child-found s wanted n passed items h (first, rest, e, stands, others) =
-    let all : n - passed ≡ 0 = omega (arith, h) in (first, e ∙ ap (slice_get (first ∷ in_order rest)) all, stands)
 
 -- ---- parts by steps
 

@@ -3,7 +3,7 @@ use Rattle.std.proofs.Common.{◌≡◌, ◌≢◌, ◌⊎◌, inl, inr, ℕ, ze
 use Rattle.std.specs.Int.{div_ceil}
 use Rattle.lrc_base.specs.declared.grammar.Kind.{Kind}
 use Rattle.lrc_base.specs.declared.grammar.Kind.TheVariants as k
-use Rattle.lrc_meaning.specs.Tree.{Tree, int, bool, name, node, Trees, none, more, at_place, replaced}
+use Rattle.lrc_meaning.specs.Tree.{Tree, int, bool, name, node, Trees, none, more, at_place}
 use Rattle.lrc_store.specs.Cells.{CellTree, nil, number, pair}
 use Rattle.lrc_store.specs.Standing.{Standing}
 use Rattle.lrc_store.specs.Words.{Shows}
@@ -46,21 +46,6 @@ bool-shown (bool b) tag l r e h = refl
 bool-shown (name n) tag l r e h = let low = name-low n tag l r e in absurd (omega (arith, low.0, h))
 bool-shown (node p kids) tag l r e h = let same : 256 + p ≡ tag = cc in absurd (omega (arith, same, h))
 
--- a pair with another tag is a name's
-pub name-shown : (t : Tree) (tag : ℕ) (l r : CellTree) → tree_cell t ≡ pair tag l r → tag ≢ 1 → tag ≢ 2 → tag < 256 → kind_of_leaf t ≡ Some k.Name
-name-shown (int i) tag l r e f g h = absurd (cc)
-name-shown (bool true) tag l r e f g h = let same : 2 ≡ tag = cc in absurd (g (sym same))
-name-shown (bool false) tag l r e f g h = let same : 1 ≡ tag = cc in absurd (f (sym same))
-name-shown (name n) tag l r e f g h = refl
-name-shown (node p kids) tag l r e f g h = let same : 256 + p ≡ tag = cc in absurd (omega (arith, same, h))
-
-pub nil-shown : (t : Tree) → tree_cell t ≡ nil → kind_of_leaf t ≡ Some k.Name
-nil-shown (int i) e = absurd (cc)
-nil-shown (bool true) e = absurd (cc)
-nil-shown (bool false) e = absurd (cc)
-nil-shown (name n) e = refl
-nil-shown (node p kids) e = absurd (cc)
-
 pub number-shown : (t : Tree) (z : ℤ) → tree_cell t ≡ number z → kind_of_leaf t ≡ Some k.Int
 number-shown t z e = ap kind_of_leaf (number-tree t z e)
 
@@ -90,9 +75,3 @@ leaf-place (int i) kind s steps e = refl
 leaf-place (bool b) kind s steps e = refl
 leaf-place (name n) kind s steps e = refl
 leaf-place (node p kids) kind s steps e = absurd (cc)
-
-pub leaf-replaced : (t u : Tree) (kind : Kind) (s : ℕ) (steps : List ℕ) → kind_of_leaf t ≡ Some kind → t ≡ replaced t (s ∷ steps) u
-leaf-replaced (int i) u kind s steps e = refl
-leaf-replaced (bool b) u kind s steps e = refl
-leaf-replaced (name n) u kind s steps e = refl
-leaf-replaced (node p kids) u kind s steps e = absurd (cc)

@@ -1,4 +1,4 @@
-use Rattle.std.proofs.Common.{None, sym, ◌∙◌, subst}
+use Rattle.std.proofs.Common.{sym, ◌∙◌, subst}
 use Rattle.lrc_meaning.specs.Tree.{at_place}
 use Rattle.lrc_store.proofs.Lasting.{reads-then}
 use Rattle.lrc_places.specs.Places.{FindsPart}

@@ -1,6 +1,6 @@
-use Rattle.std.proofs.Common.{◌≡◌, ℕ, ◌+◌, ◌-◌, List, length, take, drop, get_or, arith}
+use Rattle.std.proofs.Common.{◌≡◌, ◌+◌, ◌-◌, length, take, drop, get_or, arith}
 use Rattle.std.proofs.lemmas.Grind.{common_steps}
-use Rattle.lrc_meaning.specs.Tree.{more, replaced, replaced_among}
+use Rattle.lrc_meaning.specs.Tree.{replaced, replaced_among}
 use Rattle.lrc_store.specs.Cells.{nil}
 use Rattle.lrc_store.proofs.Known.{stands-known}
 use Rattle.lrc_code.specs.Forms.{node_cell, more_cell, tree_cell}
@@ -28,11 +28,12 @@ pub replaced-put_node-requires-clause-kids_known : goal.replaced-put_node-requir
 replaced-put_node-requires-clause-kids_known g t c =
     let s = g.St.Store.state c.args.store.now in
     let read = g.St.Store.state c.shape_of.new.store in
+    let steps = c.args.steps.now in
     let (tree, whole, below) = c.requires.tree in
     let (new, part) = c.requires.part in
     let (kids, is, list) = c.in-Node.ensures.shape tree whole in
     let built = c.in_ok-kids.ensures.builds kids new list (read-stands s read c.args.part (tree_cell new) c.shape_of.ensures.reads part) in
-    stands-known (g.St.Store.state c.replaced_among.new.store) c.in_ok-kids.kids.0 _ built.ok.stands
+    stands-known (g.St.Store.state c.replaced_among.new.store) c.in_ok-kids.kids.0 (kids_cell (replaced_among kids (get_or steps 0 0) (take (length steps - 1) (drop 1 steps)) new)) built.ok.stands
 
 pub replaced-returns-clause-builds : goal.replaced-returns-clause-builds
 replaced-returns-clause-builds g t c tree new whole part =
@@ -55,8 +56,7 @@ replaced_among-replaced-requires g t c κs within =
     let read = g.St.Store.state c.items_of.new.store in
     let (kids, list, below) = c.requires.kids in
     let (new, part) = c.requires.part in
-    let (first, rest, is, here, others) = c.in-Some.ensures.first kids list in
-    (
+    let (first, rest, is, here, others) = c.in-Some.ensures.first kids list in (
       omega (arith, falls),
       (within.0, (within.1, ((first, here, (each-below kids first rest is below).0), (new, read-stands s read c.args.part (tree_cell new) c.items_of.ensures.reads part)))),
     )
@@ -80,7 +80,7 @@ replaced_among-put_list-requires-clause-first_known g t c =
     let (new, part) = c.requires.part in
     let (first, rest, is, here, others) = c.in-Some.ensures.first kids list in
     let built = c.in_ok-kid.ensures.builds first new here (read-stands s read c.args.part (tree_cell new) c.items_of.ensures.reads part) in
-    stands-known (g.St.Store.state c.replaced.new.store) c.in_ok-kid.kid.0 _ built.ok.stands
+    stands-known (g.St.Store.state c.replaced.new.store) c.in_ok-kid.kid.0 (tree_cell (replaced first c.args.steps.now new)) built.ok.stands
 
 pub replaced_among-put_list-requires-clause-rest_known : goal.replaced_among-put_list-requires-clause-rest_known
 replaced_among-put_list-requires-clause-rest_known g t c =
@@ -111,8 +111,7 @@ replaced_among-replaced_among-requires g t c κs within =
     let read = g.St.Store.state c.items_of.new.store in
     let (kids, list, below) = c.requires.kids in
     let (new, part) = c.requires.part in
-    let (first, rest, is, here, others) = c.in-Some.ensures.first kids list in
-    (
+    let (first, rest, is, here, others) = c.in-Some.ensures.first kids list in (
       omega (arith, falls, c.if-step-eq0.false),
       (within.0, (within.1, ((rest, others, (each-below kids first rest is below).1), (new, read-stands s read c.args.part (tree_cell new) c.items_of.ensures.reads part)))),
     )
@@ -136,7 +135,7 @@ replaced_among-put_list-requires-else-step-eq0-clause-rest_known g t c =
     let (new, part) = c.requires.part in
     let (first, rest, is, here, others) = c.in-Some.ensures.first kids list in
     let built = c.in_ok-rest.ensures.builds rest new others (read-stands s read c.args.part (tree_cell new) c.items_of.ensures.reads part) in
-    stands-known (g.St.Store.state c.replaced_among.new.store) c.in_ok-rest.rest.0 _ built.ok.stands
+    stands-known (g.St.Store.state c.replaced_among.new.store) c.in_ok-rest.rest.0 (kids_cell (replaced_among rest (c.args.step - 1) c.args.steps.now new)) built.ok.stands
 
 pub replaced_among-returns-in_ok-rest-clause-builds : goal.replaced_among-returns-in_ok-rest-clause-builds
 replaced_among-returns-in_ok-rest-clause-builds g t c kids new list part =

@@ -19,9 +19,10 @@ returns-in-Pair-clause-first g c ts e =
     let s = g.St.Store.state c.args.store.now in
     let t = g.St.Store.state c.look.new.self in
     let shows = c.in-Pair.ensures.shows in
-    let shown = first-shown ts c.in-Pair.field-0 (meant t c.in-Pair.first.0) (meant t c.in-Pair.rest.0) (sym (stands-meant s c.args.kids.0 (kids_cell ts) e) ∙ shows.2) in
-    (
-      shown.0, shown.1, shown.2,
+    let shown = first-shown ts c.in-Pair.field-0 (meant t c.in-Pair.first.0) (meant t c.in-Pair.rest.0) (sym (stands-meant s c.args.kids.0 (kids_cell ts) e) ∙ shows.2) in (
+      shown.0,
+      shown.1,
+      shown.2,
       known-stands t c.in-Pair.first.0 shows.0 ∙ ap Some shown.3,
       known-stands t c.in-Pair.rest.0 shows.1 ∙ ap Some shown.4,
     )

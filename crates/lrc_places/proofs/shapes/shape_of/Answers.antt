@@ -1,7 +1,7 @@
 use Rattle.std.proofs.Common.{sym, ◌∙◌}
 use Rattle.lrc_store.proofs.Known.{stands-meant}
 use Rattle.lrc_code.specs.Forms.{tree_cell}
-use Rattle.lrc_places.proofs.ShapeLemmas.{nil-shown, number-shown}
+use Rattle.lrc_places.proofs.ShapeLemmas.{number-shown}
 use Rattle.lrc_places.proofs.shapes.shape_of.Goals as goal
 
 pub returns-in-Number-clause-shape : goal.returns-in-Number-clause-shape
