@@ -1,0 +1,5 @@
+pub mod PlaceLemmas
+pub mod DeclaredLemmas
+pub mod ShapeLemmas
+pub mod KidLemmas
+pub mod BuildLemmas
