@@ -139,9 +139,9 @@ module _ (g : Grammar) (parts : List Partition) (s : Standing) (frame : List Val
   abbrev tree : Tree
   tree = tree_at g p r.kids r.held n
 
-  symbol : (x : Symbol) × (slice_get (signed_symbols g.sorts p) n ≡ Some x) × (place_of x ≡ place)
+  symbol : (x : Symbol) × (slice_get (signed_symbols g.sorts p.left p.kids p.extras) n ≡ Some x) × (place_of x ≡ place)
   symbol =
-      of_mapped place_of (signed_symbols g.sorts p) n place
+      of_mapped place_of (signed_symbols g.sorts p.left p.kids p.extras) n place
       (ap (λ (ps : List Place). slice_get ps n) (signed_places g.sorts p) ∙ slice_get-get_or (symbols_of g.sorts p) n (left_place p) less)
 
   origin-is : origin_of g.sorts parts p n ≡ symbol.0.origin

@@ -55,6 +55,9 @@ pub trait Bodies<St: Store> {
     // A body of the first call, with fuel n + 1, waits at the mark for the second call, which is to be made with fuel n.
     ghost waits: { Self → Standing → Self.Frame → ℕ → Call → Self.Mark → Call → Type 0 };
 
+    // What is remembered in the store means what these bodies compute.
+    ghost means: { Self → St.M → Type 0 };
+
     // The frame has room for each body.
     ghost fits: { Self → Self.Frame → Type 0 };
 
@@ -72,6 +75,7 @@ pub trait Bodies<St: Store> {
         level: u32,
         call: Handle,
     ) -> Opened<Self::Mark>
+        requires meaning { means self.now (St.meaning store.old) }
         requires room { fits self.now frame.old }
         requires call { (c : Call) × asks self.now (St.state store.old) c call.0 }
         ensures room { fits self.now frame.new }
@@ -91,6 +95,7 @@ pub trait Bodies<St: Store> {
         level: u32,
         mark: Self::Mark,
     ) -> Result<Moved<Self::Mark>, Full>
+        requires meaning { means self.now (St.meaning store.old) }
         requires room { fits self.now frame.old }
         requires body { (c : Call) × runs self.now (St.state store.old) frame.old level c mark }
         ensures room { fits self.now frame.new }
@@ -108,6 +113,7 @@ pub trait Bodies<St: Store> {
         mark: Self::Mark,
         given: Handle,
     ) -> Self::Mark
+        requires meaning { means self.now (St.meaning store.old) }
         requires room { fits self.now frame.old }
         requires body { (c : Call) × (d : Call) × waits self.now (St.state store.old) frame.old level c mark d × gives self.now (St.state store.old) level d given.0 }
         ensures room { fits self.now frame.new }

@@ -21,6 +21,7 @@ pub fn run<St: Store, B: Bodies<St>>(
     call: Handle,
     fuel: u32,
 ) -> Result<Handle, Stop>
+    requires meaning { B.means bodies.now (St.meaning store.old) }
     requires call { (c : Call) × B.asks bodies.now (St.state store.old) c call.0 }
     requires frames { fuel ≤ length levels.old.frames.items }
     requires marks { fuel ≤ length levels.old.marks.items }

@@ -51,6 +51,7 @@ fn opened<St: Store, B: Bodies<St>>(
     level: u32,
     inner: Handle,
 ) -> Result<Turn<B::Mark>, Stop>
+    requires meaning { B.means bodies.now (St.meaning store.old) }
     requires turn { (fuel : ℕ) × (root : Call) × AtTurn (B.asks bodies.now) (B.gives bodies.now) (B.runs bodies.now) (B.waits bodies.now) (B.fits bodies.now) (St.state store.old) (slots_of levels.old) fuel root level (step.Open inner) }
     ensures turns { (fuel : ℕ) (root : Call) → AtTurn (B.asks bodies.now) (B.gives bodies.now) (B.runs bodies.now) (B.waits bodies.now) (B.fits bodies.now) (St.state store.old) (slots_of levels.old) fuel root level (step.Open inner) → Turns (AtTurn (B.asks bodies.now) (B.gives bodies.now) (B.runs bodies.now) (B.waits bodies.now) (B.fits bodies.now) (St.state store.new) (slots_of levels.new) fuel root) (St.state store.old) (St.state store.new) (B.meets bodies.now fuel root) (B.lacks bodies.now fuel root) result }
     ensures falls { IfOk result (λ turn. measure (B.left bodies.now) (B.most bodies.now) levels.new.marks.items turn.level turn.step < measure (B.left bodies.now) (B.most bodies.now) levels.old.marks.items level (step.Open inner)) }
@@ -81,6 +82,7 @@ fn advanced<St: Store, B: Bodies<St>>(
     level: u32,
     mark: B::Mark,
 ) -> Result<Turn<B::Mark>, Stop>
+    requires meaning { B.means bodies.now (St.meaning store.old) }
     requires turn { (fuel : ℕ) × (root : Call) × AtTurn (B.asks bodies.now) (B.gives bodies.now) (B.runs bodies.now) (B.waits bodies.now) (B.fits bodies.now) (St.state store.old) (slots_of levels.old) fuel root level (step.Go mark) }
     ensures turns { (fuel : ℕ) (root : Call) → AtTurn (B.asks bodies.now) (B.gives bodies.now) (B.runs bodies.now) (B.waits bodies.now) (B.fits bodies.now) (St.state store.old) (slots_of levels.old) fuel root level (step.Go mark) → Turns (AtTurn (B.asks bodies.now) (B.gives bodies.now) (B.runs bodies.now) (B.waits bodies.now) (B.fits bodies.now) (St.state store.new) (slots_of levels.new) fuel root) (St.state store.old) (St.state store.new) (B.meets bodies.now fuel root) (B.lacks bodies.now fuel root) result }
     ensures falls { IfOk result (λ turn. measure (B.left bodies.now) (B.most bodies.now) levels.new.marks.items turn.level turn.step < measure (B.left bodies.now) (B.most bodies.now) levels.old.marks.items level (step.Go mark)) }
@@ -119,6 +121,7 @@ fn resumed<St: Store, B: Bodies<St>>(
     level: u32,
     given: Handle,
 ) -> Turn<B::Mark>
+    requires meaning { B.means bodies.now (St.meaning store.old) }
     requires turn { (fuel : ℕ) × (root : Call) × (level < fuel) × AtTurn (B.asks bodies.now) (B.gives bodies.now) (B.runs bodies.now) (B.waits bodies.now) (B.fits bodies.now) (St.state store.old) (slots_of levels.old) fuel root level (step.Answer given) }
     ensures turns { (fuel : ℕ) (root : Call) → level < fuel → AtTurn (B.asks bodies.now) (B.gives bodies.now) (B.runs bodies.now) (B.waits bodies.now) (B.fits bodies.now) (St.state store.old) (slots_of levels.old) fuel root level (step.Answer given) → Turns (AtTurn (B.asks bodies.now) (B.gives bodies.now) (B.runs bodies.now) (B.waits bodies.now) (B.fits bodies.now) (St.state store.new) (slots_of levels.new) fuel root) (St.state store.old) (St.state store.new) (B.meets bodies.now fuel root) (B.lacks bodies.now fuel root) (Ok result) }
     ensures falls { measure (B.left bodies.now) (B.most bodies.now) levels.new.marks.items result.level result.step < measure (B.left bodies.now) (B.most bodies.now) levels.old.marks.items level (step.Answer given) }
@@ -140,6 +143,7 @@ pub(crate) fn next<St: Store, B: Bodies<St>>(
     levels: &mut Levels<B::Frame, B::Mark>,
     turn: Turn<B::Mark>,
 ) -> Result<Turn<B::Mark>, Stop>
+    requires meaning { B.means bodies.now (St.meaning store.old) }
     requires turn { (fuel : ℕ) × (root : Call) × IsInner fuel turn.level turn.step × AtTurn (B.asks bodies.now) (B.gives bodies.now) (B.runs bodies.now) (B.waits bodies.now) (B.fits bodies.now) (St.state store.old) (slots_of levels.old) fuel root turn.level turn.step }
     ensures turns { (fuel : ℕ) (root : Call) → IsInner fuel turn.level turn.step → AtTurn (B.asks bodies.now) (B.gives bodies.now) (B.runs bodies.now) (B.waits bodies.now) (B.fits bodies.now) (St.state store.old) (slots_of levels.old) fuel root turn.level turn.step → Turns (AtTurn (B.asks bodies.now) (B.gives bodies.now) (B.runs bodies.now) (B.waits bodies.now) (B.fits bodies.now) (St.state store.new) (slots_of levels.new) fuel root) (St.state store.old) (St.state store.new) (B.meets bodies.now fuel root) (B.lacks bodies.now fuel root) result }
     ensures falls { IfOk result (λ next. measure (B.left bodies.now) (B.most bodies.now) levels.new.marks.items next.level next.step < measure (B.left bodies.now) (B.most bodies.now) levels.old.marks.items turn.level turn.step) }

@@ -1,3 +1,4 @@
 pub mod Points
 pub mod Waits
 pub mod Measure
+pub mod Bodies
