@@ -1,0 +1,81 @@
+//! Expressions over a node `Num(n)`, by their parts.
+
+ghost use Rattle.std.specs.Prelude.{IfOk};
+ghost use Rattle.lrc_meaning.specs.Expression.{expression};
+ghost use Rattle.lrc_visit_tests.specs.Nodes.{ReadsNum};
+
+use lrc_base::{Boxed, Expr, List, NameText, Op};
+use std::alloc::Global;
+use std::test::Fail;
+
+const NUM: u32 = 0;
+
+const ADD: u32 = 1;
+
+/// The number of the node, `n`.
+pub(crate) fn leaf() -> Expr
+    ensures { ReadsNum (expression result) }
+{
+    Expr::Leaf(0)
+}
+
+/// A number.
+pub(crate) fn number(value: i64) -> Expr
+    ensures { ReadsNum (expression result) }
+{
+    Expr::Int(value)
+}
+
+/// A truth value.
+pub(crate) fn truth(value: bool) -> Expr
+    ensures { ReadsNum (expression result) }
+{
+    Expr::Bool(value)
+}
+
+/// A name literal of these bytes, which are a name.
+pub(crate) fn name(bytes: &[u8]) -> Result<Expr, Fail>
+    ensures { IfOk result (λ expr. ReadsNum (expression expr)) }
+{
+    Ok(Expr::Name(NameText::of(bytes).ok_or("no name")?))
+}
+
+/// `left op right`
+pub(crate) fn operation(alloc: Global, op: Op, left: Expr, right: Expr) -> Result<Expr, Fail>
+    requires left { ReadsNum (expression left) }
+    requires right { ReadsNum (expression right) }
+    ensures { IfOk result (λ expr. ReadsNum (expression expr)) }
+{
+    Ok(Expr::Op(op, Boxed::new(alloc, left)?, Boxed::new(alloc, right)?))
+}
+
+/// `if condition then one else other`
+pub(crate) fn choice(alloc: Global, condition: Expr, one: Expr, other: Expr) -> Result<Expr, Fail>
+    requires condition { ReadsNum (expression condition) }
+    requires one { ReadsNum (expression one) }
+    requires other { ReadsNum (expression other) }
+    ensures { IfOk result (λ expr. ReadsNum (expression expr)) }
+{
+    Ok(Expr::If(
+        Boxed::new(alloc, condition)?,
+        Boxed::new(alloc, one)?,
+        Boxed::new(alloc, other)?,
+    ))
+}
+
+/// `Num(arg)`
+pub(crate) fn num(alloc: Global, arg: Expr) -> Result<Expr, Fail>
+    requires { ReadsNum (expression arg) }
+    ensures { IfOk result (λ expr. ReadsNum (expression expr)) }
+{
+    Ok(Expr::Make(NUM, List::from_vec(vec![in alloc; arg]?)))
+}
+
+/// `Add(left, right)`
+pub(crate) fn add(alloc: Global, left: Expr, right: Expr) -> Result<Expr, Fail>
+    requires left { ReadsNum (expression left) }
+    requires right { ReadsNum (expression right) }
+    ensures { IfOk result (λ expr. ReadsNum (expression expr)) }
+{
+    Ok(Expr::Make(ADD, List::from_vec(vec![in alloc; left, right]?)))
+}

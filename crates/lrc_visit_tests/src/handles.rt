@@ -1,0 +1,56 @@
+//! Handles of the cells of values, and the values that are read off them.
+
+ghost use Rattle.std.specs.Prelude.{IfOk};
+ghost use Rattle.lrc_meaning.specs.Tree.{Tree};
+ghost use Rattle.lrc_store.specs.Standing.{Standing};
+ghost use Rattle.lrc_eval.specs.Values.{Means};
+
+use crate::nodes::store_with_five;
+use lrc_eval::{Val, value_handle, value_of_handle};
+use lrc_plain::PlainStore;
+use lrc_store::{Full, Store};
+use std::alloc::Global;
+use std::test::Fail;
+
+/// The value that is read off the cell of a value.
+fn read_back<S: Store>(store: &mut S, value: Val) -> Result<Val, Full>
+    requires { (t : Tree) × Means (S.state store.old) value t }
+{
+    let handle = value_handle(store, value)?;
+    Ok(value_of_handle(store, handle))
+}
+
+/// A number or a truth value, in an empty store of two rows, and how many of them it takes.
+fn read_back_alone(alloc: Global, value: Val) -> Result<(Val, u32), Fail>
+    requires { (t : Tree) × ((s : Standing) → Means s value t) }
+{
+    let mut store = PlainStore::new(alloc, 2)?;
+    let back = read_back(&mut store, value).ok().ok_or("full")?;
+    Ok((back, store.published()))
+}
+
+#[test]
+fn a_number_is_read_back(rt: HostRuntime) -> Result<(), Fail> {
+    let (back, rows) = read_back_alone(rt.alloc(), Val::Int(-7))?;
+    assert!(rt; back == Val::Int(-7));
+    assert_eq!(rt; rows, 1);
+    Ok(())
+}
+
+#[test]
+fn truth_values_are_read_back(rt: HostRuntime) -> Result<(), Fail> {
+    let (no, _) = read_back_alone(rt.alloc(), Val::Bool(false))?;
+    let (yes, rows) = read_back_alone(rt.alloc(), Val::Bool(true))?;
+    assert!(rt; no == Val::Bool(false) && yes == Val::Bool(true));
+    assert_eq!(rt; rows, 1);
+    Ok(())
+}
+
+#[test]
+fn a_node_is_its_own_handle(rt: HostRuntime) -> Result<(), Fail> {
+    let (mut store, node) = store_with_five(rt.alloc(), 3)?;
+    let back = read_back(&mut store, Val::Ref(node)).ok();
+    assert!(rt; back == Some(Val::Ref(node)));
+    assert_eq!(rt; store.published(), 3);
+    Ok(())
+}
