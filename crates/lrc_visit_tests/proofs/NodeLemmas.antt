@@ -1,22 +1,28 @@
 -- Expressions over the node `Num(5)`: what reads no occurrence needs no values, and a whole reads no more than its parts.
-use Rattle.std.proofs.Common.{◌≡◌, ◌∙◌, ℕ, ◌<◌, ◌≤◌, ℤ, pos, Bool, List, [], ◌∷◌, ◌++◌, length, Option, Some, refl, sym, ap, subst, arith}
+use Rattle.std.proofs.Common.{◌≡◌, ◌∙◌, ℕ, ◌<◌, ℤ, pos, Bool, List, [], ◌∷◌, ◌++◌, length, Some, refl, sym, ap, subst, arith}
+use Rattle.std.proofs.lemmas.List.Elements.{All-from_recursion, All-contains}
 use Rattle.lrc_base.specs.declared.expr.Op.{Op}
 use Rattle.lrc_base.specs.declared.expr.Op.TheVariants as o
 use Rattle.lrc_base.specs.declared.expr.Expr.{Expr}
 use Rattle.lrc_base.specs.declared.expr.Expr.TheVariants as v
 use Rattle.lrc_base.specs.declared.grammar.Kind.{Kind}
 use Rattle.lrc_meaning.specs.Tree.{Tree, int, bool, name}
-use Rattle.lrc_meaning.specs.Expression.{Expression, literal, leaf, binary, expression}
+use Rattle.lrc_meaning.specs.Expression.{Expression, literal, occurrence, leaf, binary, expression}
 use Rattle.lrc_meaning.specs.Grammar.{expression_kind}
 use Rattle.lrc_meaning.proofs.ExpressionLemmas.{expression-Int, expression-Bool, expression-Name, expression-Leaf, expression-Op, expression-If, expression-Make}
 use Rattle.lrc_order_meaning.specs.Needs.{reads}
 use Rattle.lrc_store.specs.Standing.{Standing}
 use Rattle.lrc_store.specs.declared.cells.Handle.{Handle}
-use Rattle.lrc_eval.specs.Evaluating.{IsNode, AreGiven}
+use Rattle.lrc_eval.specs.declared.values.Val.TheVariants as val
+use Rattle.lrc_eval.specs.Evaluating.{Inputs, IsSet, IsNode, AreGiven}
 use Rattle.lrc_eval.specs.Kinds.{AreGivenOfKinds}
 use Rattle.lrc_visit_tests.specs.Nodes.{num_kids, over_five, ReadsNum}
 
 -- ---- what is given
+
+-- the same node, over one value
+abbrev pub over_value : ℤ → Inputs
+over_value n = record { values = int n ∷ []; production = 0; trees = over_five.trees; kids = num_kids }
 
 -- no occurrence is read
 no-occurrence : (e : Expression) → ReadsNum e → (n : ℕ) → n < length (reads e) → ⊥
@@ -35,6 +41,19 @@ nothing-read-of-kind s handle e kind at r whole = record {
   set = λ i h. absurd (no-occurrence e r h.0 h.1);
   few = omega arith;
 }
+
+-- the value of one occurrence is given
+pub value-given : (s : Standing) (handle : Handle) (n : ℤ) → IsNode s handle over_five → AreGiven s (val.Int n ∷ []) handle (over_value n) (occurrence 0)
+value-given s handle n at = record {
+  node = record { stands = at.stands; spelled = at.spelled; count = at.count };
+  set = λ i h. All-contains IsThere (0 ∷ []) i (All-from_recursion IsThere (0 ∷ []) (first, tt)) h;
+  fits = tt;
+} where
+  IsThere : ℕ → Type 0
+  IsThere i = IsSet s (val.Int n ∷ []) (int n ∷ []) i
+
+  first : IsThere 0
+  first = record { value = val.Int n; tree = int n; is_there = refl; of_tree = refl; meant = record { means = refl; spelled = tt } }
 
 -- ---- what is read
 

@@ -1,18 +1,19 @@
 //! What operators and conditions give: numbers, truth values, or nothing.
 
 ghost use Rattle.lrc_meaning.specs.Expression.{expression};
-ghost use Rattle.lrc_visit_tests.specs.Nodes.{ReadsNum};
+ghost use Rattle.lrc_eval.specs.Evaluating.{IsNode};
+ghost use Rattle.lrc_visit_tests.specs.Nodes.{over_five, ReadsNum};
 
 use crate::expressions::{choice, leaf, name, num, number, operation, truth};
 use crate::nodes::{evaluated, store_with_five};
 use lrc_base::{Expr, Op};
-use lrc_eval::Val;
-use lrc_store::Store;
+use lrc_eval::{Val, evaluate};
+use lrc_store::{Full, Handle, Store};
 use std::alloc::Global;
 use std::test::Fail;
 
 /// What an expression gives over the node `Num(5)`.
-fn given(alloc: Global, expr: &Expr) -> Result<Option<Val>, Fail>
+fn value_over_five(alloc: Global, expr: &Expr) -> Result<Option<Val>, Fail>
     requires { ReadsNum (expression expr.now) }
 {
     let (mut store, node) = store_with_five(alloc, 16)?;
@@ -20,11 +21,26 @@ fn given(alloc: Global, expr: &Expr) -> Result<Option<Val>, Fail>
     Ok(value)
 }
 
+/// What the occurrence of number 0 gives, which has this value, over the node `Num(5)`.
+fn occurrence<S: Store>(store: &mut S, node: Handle, value: i64) -> Result<Option<Val>, Full>
+    requires { IsNode (S.state store.old) node over_five }
+{
+    evaluate(store, &Expr::Occ(0), &[Val::Int(value)], node)
+}
+
 #[test]
 fn a_sum_over_the_leaf(rt: HostRuntime) -> Result<(), Fail> {
     let sum = operation(rt.alloc(), Op::Add, leaf(), number(2))?;
-    let value = given(rt.alloc(), &sum)?;
+    let value = value_over_five(rt.alloc(), &sum)?;
     assert!(rt; value == Some(Val::Int(7)));
+    Ok(())
+}
+
+#[test]
+fn an_occurrence_has_its_value(rt: HostRuntime) -> Result<(), Fail> {
+    let (mut store, node) = store_with_five(rt.alloc(), 3)?;
+    let value = occurrence(&mut store, node, 40).ok();
+    assert!(rt; value == Some(Some(Val::Int(40))));
     Ok(())
 }
 
@@ -32,7 +48,7 @@ fn a_sum_over_the_leaf(rt: HostRuntime) -> Result<(), Fail> {
 #[test]
 fn a_product_wraps(rt: HostRuntime) -> Result<(), Fail> {
     let product = operation(rt.alloc(), Op::Mul, leaf(), number(i64::MAX))?;
-    let value = given(rt.alloc(), &product)?;
+    let value = value_over_five(rt.alloc(), &product)?;
     assert!(rt; value == Some(Val::Int(9_223_372_036_854_775_803)));
     Ok(())
 }
@@ -40,23 +56,26 @@ fn a_product_wraps(rt: HostRuntime) -> Result<(), Fail> {
 #[test]
 fn five_is_not_less_than_two(rt: HostRuntime) -> Result<(), Fail> {
     let less = operation(rt.alloc(), Op::Less, leaf(), number(2))?;
-    let value = given(rt.alloc(), &less)?;
+    let value = value_over_five(rt.alloc(), &less)?;
     assert!(rt; value == Some(Val::Bool(false)));
     Ok(())
 }
 
+/// The name takes two rows, beside the three of the node: its one word, and the pair of that.
 #[test]
 fn a_name_equals_itself(rt: HostRuntime) -> Result<(), Fail> {
     let equal = operation(rt.alloc(), Op::Equal, name(b"ab")?, name(b"ab")?)?;
-    let value = given(rt.alloc(), &equal)?;
-    assert!(rt; value == Some(Val::Bool(true)));
+    let (mut store, node) = store_with_five(rt.alloc(), 5)?;
+    let value = evaluated(&mut store, &equal, node).ok();
+    assert!(rt; value == Some(Some(Val::Bool(true))));
+    assert_eq!(rt; store.published(), 5);
     Ok(())
 }
 
 #[test]
 fn two_names_differ(rt: HostRuntime) -> Result<(), Fail> {
     let equal = operation(rt.alloc(), Op::Equal, name(b"ab")?, name(b"ba")?)?;
-    let value = given(rt.alloc(), &equal)?;
+    let value = value_over_five(rt.alloc(), &equal)?;
     assert!(rt; value == Some(Val::Bool(false)));
     Ok(())
 }
@@ -64,7 +83,7 @@ fn two_names_differ(rt: HostRuntime) -> Result<(), Fail> {
 #[test]
 fn a_truth_value_is_no_summand(rt: HostRuntime) -> Result<(), Fail> {
     let sum = operation(rt.alloc(), Op::Add, truth(true), number(1))?;
-    let value = given(rt.alloc(), &sum)?;
+    let value = value_over_five(rt.alloc(), &sum)?;
     assert!(rt; value.is_none());
     Ok(())
 }

@@ -4,12 +4,12 @@ ghost use Rattle.std.specs.Prelude.{IfOk};
 ghost use Rattle.lrc_meaning.specs.Expression.{expression};
 ghost use Rattle.lrc_visit_tests.specs.Nodes.{ReadsNum};
 
+use crate::nodes::NUM;
 use lrc_base::{Boxed, Expr, List, NameText, Op};
 use std::alloc::Global;
 use std::test::Fail;
 
-const NUM: u32 = 0;
-
+/// The production of a node over two nodes.
 const ADD: u32 = 1;
 
 /// The number of the node, `n`.

@@ -20,7 +20,7 @@ fn read_back<S: Store>(store: &mut S, value: Val) -> Result<Val, Full>
     Ok(value_of_handle(store, handle))
 }
 
-/// A number or a truth value, in an empty store of two rows, and how many of them it takes.
+/// What is read back of a number or a truth value in a store of its own, and how many rows it takes there.
 fn read_back_alone(alloc: Global, value: Val) -> Result<(Val, u32), Fail>
     requires { (t : Tree) × ((s : Standing) → Means s value t) }
 {

@@ -5,6 +5,8 @@
 #![tactic(auto)]
 
 #[cfg(test)]
+mod constructors;
+#[cfg(test)]
 mod equations;
 #[cfg(test)]
 mod expressions;
@@ -12,7 +14,5 @@ mod expressions;
 mod handles;
 #[cfg(test)]
 mod kinds;
-#[cfg(test)]
-mod makings;
 #[cfg(test)]
 mod nodes;

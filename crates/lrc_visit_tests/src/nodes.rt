@@ -15,13 +15,16 @@ use lrc_store::{Full, Handle, NoMeaning, Store};
 use std::alloc::Global;
 use std::test::Fail;
 
+/// The production of a node over a number.
+pub(crate) const NUM: u32 = 0;
+
 /// `Num(5)`
 #[tactic(auto, using(lrc_meaning::proofs::TreeLemmas::tree_equations))]
 fn num_five(alloc: Global) -> Result<Term, Fail>
     ensures { IfOk result (λ term. tree term ≡ num_five) }
 {
     let kids = vec![in alloc; Term::Int(5)]?;
-    Ok(Term::Node(0, List::from_vec(kids)))
+    Ok(Term::Node(NUM, List::from_vec(kids)))
 }
 
 /// A handle of the node `Num(5)`, which takes three rows: its number, the list of that, and the node.

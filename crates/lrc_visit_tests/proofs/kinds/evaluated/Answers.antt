@@ -1,4 +1,4 @@
-use Rattle.std.proofs.Common.{refl, ap, sym, subst, ◌≡◌, ◌∙◌, []}
+use Rattle.std.proofs.Common.{ap, sym, subst, []}
 use Rattle.lrc_base.specs.declared.grammar.Kind.TheVariants as k
 use Rattle.lrc_meaning.specs.Expression.{expression}
 use Rattle.lrc_meaning.specs.Grammar.{expression_kind}

@@ -1,7 +1,7 @@
 //! Constructor applications: their rows, and what is refused in a store with too few.
 //!
-//! Of `Add(n, Num(9))` over the node `Num(5)`, whose three rows are there, rows are made for the number 9, the
-//! list of it and its node, for the two lists of arguments, and for the node: six.
+//! Of `Add(Num(n), Num(9))` over the node `Num(5)`, whose three rows are there and are those of `Num(n)` too, rows
+//! are made for the number 9, the list of it and its node, for the two lists of arguments, and for the node: six.
 
 ghost use Rattle.std.specs.Prelude.{IfOk};
 ghost use Rattle.lrc_meaning.specs.Expression.{expression};
@@ -27,10 +27,11 @@ fn sum(alloc: Global) -> Result<Expr, Fail>
 #[test]
 fn a_node_is_made_once(rt: HostRuntime) -> Result<(), Fail> {
     let sum = sum(rt.alloc())?;
-    let (mut store, node) = store_with_five(rt.alloc(), 16)?;
+    let (mut store, node) = store_with_five(rt.alloc(), 9)?;
     let first = evaluated(&mut store, &sum, node).ok();
     let again = evaluated(&mut store, &sum, node).ok();
-    assert!(rt; first.is_some() && first == again);
+    assert!(rt; matches!(first, Some(Some(Val::Ref(_)))));
+    assert!(rt; first == again);
     assert_eq!(rt; store.published(), 9);
     Ok(())
 }
