@@ -5,13 +5,14 @@
 
 ghost use Rattle.std.specs.Prelude.{IfOk};
 ghost use Rattle.lrc_meaning.specs.Expression.{expression};
-ghost use Rattle.lrc_visit_tests.specs.Nodes.{ReadsNum};
+ghost use Rattle.lrc_eval.specs.Evaluating.{IsNode};
+ghost use Rattle.lrc_visit_tests.specs.Nodes.{over_five, ReadsNum};
 
 use crate::expressions::{add, leaf, num, number};
 use crate::nodes::{evaluated, store_with_five};
 use lrc_base::Expr;
 use lrc_eval::Val;
-use lrc_store::Store;
+use lrc_store::{Full, Handle, Store};
 use std::alloc::Global;
 use std::test::Fail;
 
@@ -24,25 +25,51 @@ fn sum(alloc: Global) -> Result<Expr, Fail>
     add(alloc, left, right)
 }
 
+/// What an expression gives over the node `Num(5)`, asked twice.
+fn twice<S: Store>(
+    store: &mut S,
+    expr: &Expr,
+    node: Handle,
+) -> Result<(Option<Val>, Option<Val>), Full>
+    requires node { IsNode (S.state store.old) node over_five }
+    requires reads { ReadsNum (expression expr.now) }
+{
+    let first = evaluated(store, expr, node)?;
+    let again = evaluated(store, expr, node)?;
+    Ok((first, again))
+}
+
+/// What the sum gives, asked twice in a store of nine rows, and how many rows are used then.
+fn sum_twice(alloc: Global) -> Result<(Option<Val>, Option<Val>, u32), Fail> {
+    let sum = sum(alloc)?;
+    let (mut store, node) = store_with_five(alloc, 9)?;
+    let (first, again) = twice(&mut store, &sum, node).ok().ok_or("full")?;
+    Ok((first, again, store.published()))
+}
+
+/// Whether the sum is refused in a store of eight rows, how many are used then, and what the leaf `n` still gives.
+fn sum_refused(alloc: Global) -> Result<(bool, u32, Option<Val>), Fail> {
+    let sum = sum(alloc)?;
+    let (mut store, node) = store_with_five(alloc, 8)?;
+    let refused = evaluated(&mut store, &sum, node).is_err();
+    let kept = evaluated(&mut store, &leaf(), node).ok().ok_or("full")?;
+    Ok((refused, store.published(), kept))
+}
+
 #[test]
 fn a_node_is_made_once(rt: HostRuntime) -> Result<(), Fail> {
-    let sum = sum(rt.alloc())?;
-    let (mut store, node) = store_with_five(rt.alloc(), 9)?;
-    let first = evaluated(&mut store, &sum, node).ok();
-    let again = evaluated(&mut store, &sum, node).ok();
-    assert!(rt; matches!(first, Some(Some(Val::Ref(_)))));
+    let (first, again, rows) = sum_twice(rt.alloc())?;
+    assert!(rt; matches!(first, Some(Val::Ref(_))));
     assert!(rt; first == again);
-    assert_eq!(rt; store.published(), 9);
+    assert_eq!(rt; rows, 9);
     Ok(())
 }
 
 #[test]
 fn a_node_without_a_row_is_refused(rt: HostRuntime) -> Result<(), Fail> {
-    let sum = sum(rt.alloc())?;
-    let (mut store, node) = store_with_five(rt.alloc(), 8)?;
-    let refused = evaluated(&mut store, &sum, node).is_err();
-    let kept = evaluated(&mut store, &leaf(), node).ok();
-    assert!(rt; refused && store.published() == 8);
-    assert!(rt; kept == Some(Some(Val::Int(5))));
+    let (refused, rows, kept) = sum_refused(rt.alloc())?;
+    assert!(rt; refused);
+    assert_eq!(rt; rows, 8);
+    assert!(rt; kept == Some(Val::Int(5)));
     Ok(())
 }

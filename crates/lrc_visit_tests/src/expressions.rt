@@ -34,7 +34,7 @@ pub(crate) fn truth(value: bool) -> Expr
 }
 
 /// A name literal of these bytes, which are a name.
-pub(crate) fn name(bytes: &[u8]) -> Result<Expr, Fail>
+fn name(bytes: &[u8]) -> Result<Expr, Fail>
     ensures { IfOk result (λ expr. ReadsNum (expression expr)) }
 {
     Ok(Expr::Name(NameText::of(bytes).ok_or("no name")?))
@@ -49,16 +49,23 @@ pub(crate) fn operation(alloc: Global, op: Op, left: Expr, right: Expr) -> Resul
     Ok(Expr::Op(op, Boxed::new(alloc, left)?, Boxed::new(alloc, right)?))
 }
 
-/// `if condition then one else other`
-pub(crate) fn choice(alloc: Global, condition: Expr, one: Expr, other: Expr) -> Result<Expr, Fail>
-    requires condition { ReadsNum (expression condition) }
-    requires one { ReadsNum (expression one) }
-    requires other { ReadsNum (expression other) }
+/// `'left == 'right`, of two names.
+pub(crate) fn same_names(alloc: Global, left: &[u8], right: &[u8]) -> Result<Expr, Fail>
+    ensures { IfOk result (λ expr. ReadsNum (expression expr)) }
+{
+    let left = name(left)?;
+    let right = name(right)?;
+    operation(alloc, Op::Equal, left, right)
+}
+
+/// `if true then number else other`
+pub(crate) fn first_chosen(alloc: Global, number: i64, other: Expr) -> Result<Expr, Fail>
+    requires { ReadsNum (expression other) }
     ensures { IfOk result (λ expr. ReadsNum (expression expr)) }
 {
     Ok(Expr::If(
-        Boxed::new(alloc, condition)?,
-        Boxed::new(alloc, one)?,
+        Boxed::new(alloc, Expr::Bool(true))?,
+        Boxed::new(alloc, Expr::Int(number))?,
         Boxed::new(alloc, other)?,
     ))
 }

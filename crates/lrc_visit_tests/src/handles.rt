@@ -8,7 +8,7 @@ ghost use Rattle.lrc_eval.specs.Values.{Means};
 use crate::nodes::store_with_five;
 use lrc_eval::{Val, value_handle, value_of_handle};
 use lrc_plain::PlainStore;
-use lrc_store::{Full, Store};
+use lrc_store::{Full, Handle, Store};
 use std::alloc::Global;
 use std::test::Fail;
 
@@ -46,11 +46,17 @@ fn truth_values_are_read_back(rt: HostRuntime) -> Result<(), Fail> {
     Ok(())
 }
 
+/// A node's handle, what is read back of it, and how many rows are used then.
+fn node_read_back(alloc: Global) -> Result<(Handle, Val, u32), Fail> {
+    let (mut store, node) = store_with_five(alloc, 3)?;
+    let back = read_back(&mut store, Val::Ref(node)).ok().ok_or("full")?;
+    Ok((node, back, store.published()))
+}
+
 #[test]
-fn a_node_is_its_own_handle(rt: HostRuntime) -> Result<(), Fail> {
-    let (mut store, node) = store_with_five(rt.alloc(), 3)?;
-    let back = read_back(&mut store, Val::Ref(node)).ok();
-    assert!(rt; back == Some(Val::Ref(node)));
-    assert_eq!(rt; store.published(), 3);
+fn a_node_is_its_own_value(rt: HostRuntime) -> Result<(), Fail> {
+    let (node, back, rows) = node_read_back(rt.alloc())?;
+    assert!(rt; back == Val::Ref(node));
+    assert_eq!(rt; rows, 3);
     Ok(())
 }

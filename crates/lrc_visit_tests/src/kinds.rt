@@ -31,11 +31,17 @@ fn evaluated<S: Store>(store: &mut S, expr: &Expr, node: Handle) -> Result<Val, 
     eval(store, expr, &[], node)
 }
 
+/// What `n + 2` gives in a store of its own.
+fn value(alloc: Global) -> Result<Val, Fail> {
+    let sum = two_more(alloc)?;
+    let (mut store, node) = store_with_five(alloc, 3)?;
+    let value = evaluated(&mut store, &sum, node).ok().ok_or("full")?;
+    Ok(value)
+}
+
 #[test]
 fn two_more_than_five(rt: HostRuntime) -> Result<(), Fail> {
-    let sum = two_more(rt.alloc())?;
-    let (mut store, node) = store_with_five(rt.alloc(), 3)?;
-    let value = evaluated(&mut store, &sum, node).ok();
-    assert!(rt; value == Some(Val::Int(7)));
+    let value = value(rt.alloc())?;
+    assert!(rt; value == Val::Int(7));
     Ok(())
 }

@@ -35,6 +35,22 @@ fn put_five<S: Store>(store: &mut S, term: &Term) -> Result<Handle, Full>
     put_term(store, term)
 }
 
+/// A store of so many rows with the node `Num(5)`, which this term is.
+fn store_with(
+    alloc: Global,
+    rows: u32,
+    term: &Term,
+) -> Result<(PlainStore<NoMeaning>, Handle), Fail>
+    requires some { 1 ≤ rows }
+    requires limit { rows ≤ 2 ^ 24 }
+    requires five { tree term.now ≡ num_five }
+    ensures { IfOk result (λ made. IsNode (state_of made.0) made.1 over_five) }
+{
+    let mut store = PlainStore::new(alloc, rows)?;
+    let node = put_five(&mut store, term).ok().ok_or("full")?;
+    Ok((store, node))
+}
+
 /// A store of so many rows, from 3 on, with the node `Num(5)`.
 pub(crate) fn store_with_five(
     alloc: Global,
@@ -45,9 +61,7 @@ pub(crate) fn store_with_five(
     ensures { IfOk result (λ made. IsNode (state_of made.0) made.1 over_five) }
 {
     let term = num_five(alloc)?;
-    let mut store = PlainStore::new(alloc, rows)?;
-    let node = put_five(&mut store, &term).ok().ok_or("full")?;
-    Ok((store, node))
+    store_with(alloc, rows, &term)
 }
 
 /// What an expression gives over the node `Num(5)`, which stays known.
@@ -61,4 +75,19 @@ pub(crate) fn evaluated<S: Store>(
     ensures { IsNode (S.state store.new) node over_five }
 {
     evaluate(store, expr, &[], node)
+}
+
+/// What an expression gives over the node `Num(5)` in a store of so many rows, and how many are used then.
+pub(crate) fn value_and_rows(
+    alloc: Global,
+    expr: Expr,
+    rows: u32,
+) -> Result<(Option<Val>, u32), Fail>
+    requires some { 1 ≤ rows }
+    requires limit { rows ≤ 2 ^ 24 }
+    requires reads { ReadsNum (expression expr) }
+{
+    let (mut store, node) = store_with_five(alloc, rows)?;
+    let value = evaluated(&mut store, &expr, node).ok().ok_or("full")?;
+    Ok((value, store.published()))
 }
