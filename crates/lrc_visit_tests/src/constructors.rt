@@ -25,40 +25,47 @@ fn sum(alloc: Global) -> Result<Expr, Fail>
     add(alloc, left, right)
 }
 
-/// What an expression gives over the node `Num(5)`, asked twice.
+/// What an expression gives over the node `Num(5)`, asked twice, and how many rows are used then.
 fn twice<S: Store>(
     store: &mut S,
     expr: &Expr,
     node: Handle,
-) -> Result<(Option<Val>, Option<Val>), Full>
+) -> Result<(Option<Val>, Option<Val>, u32), Full>
     requires node { IsNode (S.state store.old) node over_five }
     requires reads { ReadsNum (expression expr.now) }
 {
     let first = evaluated(store, expr, node)?;
     let again = evaluated(store, expr, node)?;
-    Ok((first, again))
-}
-
-/// What the sum gives, asked twice in a store of nine rows, and how many rows are used then.
-fn sum_twice(alloc: Global) -> Result<(Option<Val>, Option<Val>, u32), Fail> {
-    let sum = sum(alloc)?;
-    let (mut store, node) = store_with_five(alloc, 9)?;
-    let (first, again) = twice(&mut store, &sum, node).ok().ok_or("full")?;
     Ok((first, again, store.published()))
 }
 
-/// Whether the sum is refused in a store of eight rows, how many are used then, and what the leaf `n` still gives.
-fn sum_refused(alloc: Global) -> Result<(bool, u32, Option<Val>), Fail> {
+/// The same of the sum in a store of nine rows; none where it is full.
+fn sum_twice(alloc: Global) -> Result<Option<(Option<Val>, Option<Val>, u32)>, Fail> {
+    let sum = sum(alloc)?;
+    let (mut store, node) = store_with_five(alloc, 9)?;
+    Ok(twice(&mut store, &sum, node).ok())
+}
+
+/// Whether an expression is refused over the node `Num(5)`, how many rows are used then, and what its number is.
+fn refused<S: Store>(store: &mut S, expr: &Expr, node: Handle) -> (bool, u32, Option<Option<Val>>)
+    requires node { IsNode (S.state store.old) node over_five }
+    requires reads { ReadsNum (expression expr.now) }
+{
+    let refused = evaluated(store, expr, node).is_err();
+    let rows = store.published();
+    (refused, rows, evaluated(store, &leaf(), node).ok())
+}
+
+/// The same of the sum in a store of eight rows.
+fn sum_refused(alloc: Global) -> Result<(bool, u32, Option<Option<Val>>), Fail> {
     let sum = sum(alloc)?;
     let (mut store, node) = store_with_five(alloc, 8)?;
-    let refused = evaluated(&mut store, &sum, node).is_err();
-    let kept = evaluated(&mut store, &leaf(), node).ok().ok_or("full")?;
-    Ok((refused, store.published(), kept))
+    Ok(refused(&mut store, &sum, node))
 }
 
 #[test]
 fn a_node_is_made_once(rt: HostRuntime) -> Result<(), Fail> {
-    let (first, again, rows) = sum_twice(rt.alloc())?;
+    let (first, again, rows) = sum_twice(rt.alloc())?.ok_or("full")?;
     assert!(rt; matches!(first, Some(Val::Ref(_))));
     assert!(rt; first == again);
     assert_eq!(rt; rows, 9);
@@ -70,6 +77,6 @@ fn a_node_without_a_row_is_refused(rt: HostRuntime) -> Result<(), Fail> {
     let (refused, rows, kept) = sum_refused(rt.alloc())?;
     assert!(rt; refused);
     assert_eq!(rt; rows, 8);
-    assert!(rt; kept == Some(Val::Int(5)));
+    assert!(rt; kept == Some(Some(Val::Int(5))));
     Ok(())
 }

@@ -31,17 +31,16 @@ fn evaluated<S: Store>(store: &mut S, expr: &Expr, node: Handle) -> Result<Val, 
     eval(store, expr, &[], node)
 }
 
-/// What `n + 2` gives in a store of its own.
-fn value(alloc: Global) -> Result<Val, Fail> {
+/// The same in a store of three rows; none where it is full.
+fn value(alloc: Global) -> Result<Option<Val>, Fail> {
     let sum = two_more(alloc)?;
     let (mut store, node) = store_with_five(alloc, 3)?;
-    let value = evaluated(&mut store, &sum, node).ok().ok_or("full")?;
-    Ok(value)
+    Ok(evaluated(&mut store, &sum, node).ok())
 }
 
 #[test]
 fn two_more_than_five(rt: HostRuntime) -> Result<(), Fail> {
     let value = value(rt.alloc())?;
-    assert!(rt; value == Val::Int(7));
+    assert!(rt; value == Some(Val::Int(7)));
     Ok(())
 }

@@ -77,7 +77,34 @@ pub(crate) fn evaluated<S: Store>(
     evaluate(store, expr, &[], node)
 }
 
-/// What an expression gives over the node `Num(5)` in a store of so many rows, and how many are used then.
+/// What an expression gives over the node `Num(5)`, and how many rows are used then.
+fn value_with_rows<S: Store>(
+    store: &mut S,
+    expr: &Expr,
+    node: Handle,
+) -> Result<(Option<Val>, u32), Full>
+    requires node { IsNode (S.state store.old) node over_five }
+    requires reads { ReadsNum (expression expr.now) }
+{
+    let value = evaluated(store, expr, node)?;
+    Ok((value, store.published()))
+}
+
+/// The same in a store of so many rows; none where it is full.
+fn value_if_not_full(
+    alloc: Global,
+    expr: &Expr,
+    rows: u32,
+) -> Result<Option<(Option<Val>, u32)>, Fail>
+    requires some { 1 ≤ rows }
+    requires limit { rows ≤ 2 ^ 24 }
+    requires reads { ReadsNum (expression expr.now) }
+{
+    let (mut store, node) = store_with_five(alloc, rows)?;
+    Ok(value_with_rows(&mut store, expr, node).ok())
+}
+
+/// The same in a store that has rows enough.
 pub(crate) fn value_and_rows(
     alloc: Global,
     expr: Expr,
@@ -87,7 +114,6 @@ pub(crate) fn value_and_rows(
     requires limit { rows ≤ 2 ^ 24 }
     requires reads { ReadsNum (expression expr) }
 {
-    let (mut store, node) = store_with_five(alloc, rows)?;
-    let value = evaluated(&mut store, &expr, node).ok().ok_or("full")?;
-    Ok((value, store.published()))
+    let answer = value_if_not_full(alloc, &expr, rows)?;
+    Ok(answer.ok_or("full")?)
 }
