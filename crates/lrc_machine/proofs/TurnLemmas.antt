@@ -172,14 +172,18 @@ module _ {Frame Mark : Type 0} (asks : Standing → Call → ℕ → Type 0) (gi
           frames = has_frames;
           marks = kept;
           rooms = rooms_changed;
-          turn = (d, asked, over (record {
-            frame = frame;
-            mark = stays;
-            has_frame = set_here frames level frame is_there;
-            has_mark = set_here marks level stays room;
-            below = less;
-            waits_for = waits_for;
-          }) (still_waits (slice_set marks level stays) (λ k le. set_other marks level k stays (omega arith)) gains));
+          turn = (
+            d,
+            asked,
+            over (record {
+              frame = frame;
+              mark = stays;
+              has_frame = set_here frames level frame is_there;
+              has_mark = set_here marks level stays room;
+              below = less;
+              waits_for = waits_for;
+            }) (still_waits (slice_set marks level stays) (λ k le. set_other marks level k stays (omega arith)) gains),
+          );
         })
 
     pub ended_with : (given : Handle) (above : ℕ) → above ≡ suc level → Gains s t (meets (suc level) goes) → gives t (suc level) goes given.0 → Answers s t changed marks (Ok (record { level = above; step = step.Answer given }))
@@ -225,6 +229,10 @@ module _ {Frame Mark : Type 0} (asks : Standing → Call → ℕ → Type 0) (gi
           frames = kept;
           marks = turn.marks;
           rooms = set_room fits frames level frame fit turn.rooms;
-          turn = (waiter.0, less, record { frame = frame; has_frame = set_here frames level frame room; runs_at = running },
-            waits_on waits fuel root lasts s t slots (record { frames = slice_set frames level frame; marks = marks }) gains.lasts (suc level) waiter.0 (frame_below frames marks level (suc level) frame (omega arith)) waiter.2);
+          turn = (
+            waiter.0,
+            less,
+            record { frame = frame; has_frame = set_here frames level frame room; runs_at = running },
+            waits_on waits fuel root lasts s t slots (record { frames = slice_set frames level frame; marks = marks }) gains.lasts (suc level) waiter.0 (frame_below frames marks level (suc level) frame (omega arith)) waiter.2,
+          );
         })

@@ -35,6 +35,7 @@ pub enum Moved<M> {
 /// has what it holds.
 pub trait Bodies<St: Store> {
     type Frame;
+
     type Mark: Copy;
 
     // The handle stands for the call.

@@ -56,30 +56,30 @@ pub turns-preserved : goal.turns-preserved
 turns-preserved g c =
     record {
       gains = λ root asked.
-    let b = c.args.bodies.now in
-    let at = c.turns.invariant.at root asked in
-    let inner : IsInner c.args.fuel c.turns.turn.level c.turns.turn.step =
-    elim c.match-turn.branch [
-      | in-Answer+else-turn-fuel w ↦
-          is_inner c.args.fuel c.turns.turn.level c.turns.turn.step
-          (λ handle is. is_below (g.B.Bodies.asks b) (g.B.Bodies.gives b) (g.B.Bodies.runs b) (g.B.Bodies.waits b) (g.B.Bodies.fits b) (g.St.Store.state c.turns.store) (slots_of c.turns.levels)
-          c.args.fuel root c.turns.turn.level c.turns.turn.step at handle is w.if-turn-fuel.false)
-      | in_default w ↦ is_inner c.args.fuel c.turns.turn.level c.turns.turn.step (λ handle is. absurd (w.in_default.not-Answer handle is))
-    ] in
-    let turns = c.next.ensures.turns c.args.fuel root inner at in
-      gains-then (g.St.Store.state c.args.store.now) (g.St.Store.state c.turns.store) (g.St.Store.state c.next.new.store) (g.B.Bodies.meets b c.args.fuel root) (c.turns.invariant.gains root asked) turns.gains;
+          let b = c.args.bodies.now in
+          let at = c.turns.invariant.at root asked in
+          let inner : IsInner c.args.fuel c.turns.turn.level c.turns.turn.step =
+          elim c.match-turn.branch [
+            | in-Answer+else-turn-fuel w ↦
+                is_inner c.args.fuel c.turns.turn.level c.turns.turn.step
+                (λ handle is. is_below (g.B.Bodies.asks b) (g.B.Bodies.gives b) (g.B.Bodies.runs b) (g.B.Bodies.waits b) (g.B.Bodies.fits b) (g.St.Store.state c.turns.store) (slots_of c.turns.levels)
+                c.args.fuel root c.turns.turn.level c.turns.turn.step at handle is w.if-turn-fuel.false)
+            | in_default w ↦ is_inner c.args.fuel c.turns.turn.level c.turns.turn.step (λ handle is. absurd (w.in_default.not-Answer handle is))
+          ] in
+          let turns = c.next.ensures.turns c.args.fuel root inner at in
+          gains-then (g.St.Store.state c.args.store.now) (g.St.Store.state c.turns.store) (g.St.Store.state c.next.new.store) (g.B.Bodies.meets b c.args.fuel root) (c.turns.invariant.gains root asked) turns.gains;
       at = λ root asked.
-    let b = c.args.bodies.now in
-    let at = c.turns.invariant.at root asked in
-    let inner : IsInner c.args.fuel c.turns.turn.level c.turns.turn.step =
-    elim c.match-turn.branch [
-      | in-Answer+else-turn-fuel w ↦
-          is_inner c.args.fuel c.turns.turn.level c.turns.turn.step
-          (λ handle is. is_below (g.B.Bodies.asks b) (g.B.Bodies.gives b) (g.B.Bodies.runs b) (g.B.Bodies.waits b) (g.B.Bodies.fits b) (g.St.Store.state c.turns.store) (slots_of c.turns.levels)
-          c.args.fuel root c.turns.turn.level c.turns.turn.step at handle is w.if-turn-fuel.false)
-      | in_default w ↦ is_inner c.args.fuel c.turns.turn.level c.turns.turn.step (λ handle is. absurd (w.in_default.not-Answer handle is))
-    ] in
-    let turns = c.next.ensures.turns c.args.fuel root inner at in
-      IfOk-at_ok (λ turn. AtTurn (g.B.Bodies.asks b) (g.B.Bodies.gives b) (g.B.Bodies.runs b) (g.B.Bodies.waits b) (g.B.Bodies.fits b) (g.St.Store.state c.next.new.store) (slots_of c.next.new.levels) c.args.fuel root turn.level turn.step) c.in-Ok.is turns.ok;
+          let b = c.args.bodies.now in
+          let at = c.turns.invariant.at root asked in
+          let inner : IsInner c.args.fuel c.turns.turn.level c.turns.turn.step =
+          elim c.match-turn.branch [
+            | in-Answer+else-turn-fuel w ↦
+                is_inner c.args.fuel c.turns.turn.level c.turns.turn.step
+                (λ handle is. is_below (g.B.Bodies.asks b) (g.B.Bodies.gives b) (g.B.Bodies.runs b) (g.B.Bodies.waits b) (g.B.Bodies.fits b) (g.St.Store.state c.turns.store) (slots_of c.turns.levels)
+                c.args.fuel root c.turns.turn.level c.turns.turn.step at handle is w.if-turn-fuel.false)
+            | in_default w ↦ is_inner c.args.fuel c.turns.turn.level c.turns.turn.step (λ handle is. absurd (w.in_default.not-Answer handle is))
+          ] in
+          let turns = c.next.ensures.turns c.args.fuel root inner at in
+          IfOk-at_ok (λ turn. AtTurn (g.B.Bodies.asks b) (g.B.Bodies.gives b) (g.B.Bodies.runs b) (g.B.Bodies.waits b) (g.B.Bodies.fits b) (g.St.Store.state c.next.new.store) (slots_of c.next.new.levels) c.args.fuel root turn.level turn.step) c.in-Ok.is turns.ok;
       same_meaning = c.next.ensures.same_meaning ∙ c.turns.invariant.same_meaning;
     }

@@ -38,7 +38,7 @@ returns-in-Deep-clause-turns g c fuel root turn =
     let at : c.args.level ≡ suc (c.args.level - 1) = omega arith in
     opened_deep (g.B.Bodies.asks b) (g.B.Bodies.gives b) (g.B.Bodies.runs b) (g.B.Bodies.waits b) (g.B.Bodies.fits b) (g.B.Bodies.lacks b) (g.B.Bodies.meets b)
     (g.met.B.Bodies.lasts b) (g.met.B.Bodies.deep b) (g.met.B.Bodies.within b) fuel root c.args.levels.now.frames.items c.args.levels.now.marks.items
-    (g.St.Store.state c.args.store.now) (g.St.Store.state c.open.new.store) (c.args.level - 1) c.args.level at c.args.inner c.open.new.frame c.open.ensures.room turn 
+    (g.St.Store.state c.args.store.now) (g.St.Store.state c.open.new.store) (c.args.level - 1) c.args.level at c.args.inner c.open.new.frame c.open.ensures.room turn
     (c.open.ensures.gains turn.turn.0 turn.turn.1) (c.in-Deep.ensures.opens turn.turn.0 turn.turn.1)
 
 pub returns-in-Hit-clause-falls : goal.returns-in-Hit-clause-falls
