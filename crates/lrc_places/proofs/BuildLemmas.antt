@@ -1,5 +1,5 @@
 -- Trees and lists of children that are built with another part, from below.
-use Rattle.std.proofs.Common.{◌≡◌, ◌≢◌, ℕ, zero, suc, ◌+◌, ◌-◌, ◌≤◌, List, [], ◌∷◌, length, drop, get_or, sum_by, IsTrue, refl, sym, ap, ◌∙◌, subst, arith}
+use Rattle.std.proofs.Common.{◌≡◌, ◌≢◌, ℕ, zero, suc, ◌+◌, ◌-◌, ◌<◌, ◌≤◌, nat_lt, List, [], ◌∷◌, length, drop, get_or, IsTrue, refl, sym, ap, ◌∙◌, subst, arith}
 use Rattle.std.specs.Prelude.{Result, Ok, Err, IsErr}
 use Rattle.std.proofs.lemmas.Bool.{and_parts}
 use Rattle.lrc_meaning.specs.Tree.{Tree, Trees, node, more, replaced, replaced_among}
@@ -17,7 +17,14 @@ use Rattle.lrc_places.specs.Places.{kids_cell}
 
 -- the work that steps ask for: each passes so many children
 abbrev pub work : List ℕ → ℕ
-work steps = sum_by (λ step. step + 2) steps
+work [] = 0
+work (step ∷ steps) = step + 2 + work steps
+
+pub step-taken : (steps rest : List ℕ) → 1 ≤ length steps → rest ≡ drop 1 steps → get_or steps 0 0 + 1 + work rest < work steps
+step-taken [] rest h e = absurd (omega (arith, h))
+step-taken (s ∷ steps) rest h e =
+    let same : work rest ≡ work steps = ap work e in
+    let less : s + 1 + work rest < s + 2 + work steps = omega (arith, same) in less
 
 -- ---- a store that is read first
 
@@ -73,6 +80,10 @@ passed first rest (suc n) steps u h = let e : suc n - 1 ≡ n = omega arith in a
 
 pub others-replaced : (ts : Trees) (first : Tree) (rest : Trees) (step : ℕ) (steps : List ℕ) (u : Tree) → ts ≡ more first rest → step ≢ 0 → kids_cell (more first (replaced_among rest (step - 1) steps u)) ≡ kids_cell (replaced_among ts step steps u)
 others-replaced ts first rest step steps u is h = ap kids_cell (passed first rest step steps u h) ∙ ap (λ us. kids_cell (replaced_among us step steps u)) (sym is)
+
+-- the productions of the children of a node
+pub kids-below : (t : Tree) (p : ℕ) (kids : Trees) → t ≡ node p kids → IsTrue (are_productions_below 65280 t) → IsTrue (are_kids_below 65280 kids)
+kids-below t p kids is h = (and_parts (nat_lt p 65280) (are_kids_below 65280 kids) (subst (λ u. IsTrue (are_productions_below 65280 u)) is h)).1
 
 -- the productions of the first child and of the others
 pub each-below : (ts : Trees) (first : Tree) (rest : Trees) → ts ≡ more first rest → IsTrue (are_kids_below 65280 ts) → IsTrue (are_productions_below 65280 first) × IsTrue (are_kids_below 65280 rest)

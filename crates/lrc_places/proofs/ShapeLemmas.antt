@@ -15,16 +15,13 @@ use Rattle.lrc_places.specs.Places.{kids_cell, kind_of_leaf}
 
 -- ---- forms of cells
 
-words-low : (n : ℕ) (bytes : List ℕ) (tag : ℕ) (l r : CellTree) → words_cell n bytes ≡ pair tag l r → (2 < tag) × (tag < 256)
+words-low : (n : ℕ) (bytes : List ℕ) (tag : ℕ) (l r : CellTree) → words_cell n bytes ≡ pair tag l r → tag < 256
 words-low zero bytes tag l r e = absurd (cc)
-words-low (suc n) bytes tag l r e = let same : 3 ≡ tag = cc in (omega (arith, same), omega (arith, same))
+words-low (suc n) bytes tag l r e = let same : 3 ≡ tag = cc in omega (arith, same)
 
-name-low : (bytes : List ℕ) (tag : ℕ) (l r : CellTree) → name_cell bytes ≡ pair tag l r → (2 < tag) × (tag < 256)
+name-low : (bytes : List ℕ) (tag : ℕ) (l r : CellTree) → name_cell bytes ≡ pair tag l r → tag < 256
 unfolding name_cell
 name-low bytes tag l r e = words-low (div_ceil (length bytes) 8) bytes tag l r e
-
-same-left : (tag other : ℕ) (a b c d : CellTree) → pair tag a b ≡ pair other c d → a ≡ c
-same-left tag other a b c d e = cc
 
 -- ---- trees
 
@@ -33,19 +30,13 @@ pub node-shown : (t : Tree) (tag : ℕ) (l r : CellTree) → tree_cell t ≡ pai
 node-shown (int i) tag l r e h = absurd (cc)
 node-shown (bool true) tag l r e h = let same : 2 ≡ tag = cc in absurd (omega (arith, same, h))
 node-shown (bool false) tag l r e h = let same : 1 ≡ tag = cc in absurd (omega (arith, same, h))
-node-shown (name n) tag l r e h = let low = name-low n tag l r e in absurd (omega (arith, low.1, h))
+node-shown (name n) tag l r e h = let low = name-low n tag l r e in absurd (omega (arith, low, h))
 node-shown (node p kids) tag l r e h =
     let same : 256 + p ≡ tag = cc in
     let own : p ≡ tag - 256 = omega (arith, same) in
-    (kids, ap (λ q. node q kids) own, sym (same-left (256 + p) tag (kids_cell kids) nil l r e))
+    (kids, ap (λ q. node q kids) own, cc)
 
--- a pair with tag 1 or 2 is a truth value's
-pub bool-shown : (t : Tree) (tag : ℕ) (l r : CellTree) → tree_cell t ≡ pair tag l r → tag ≤ 2 → kind_of_leaf t ≡ Some k.Bool
-bool-shown (int i) tag l r e h = absurd (cc)
-bool-shown (bool b) tag l r e h = refl
-bool-shown (name n) tag l r e h = let low = name-low n tag l r e in absurd (omega (arith, low.0, h))
-bool-shown (node p kids) tag l r e h = let same : 256 + p ≡ tag = cc in absurd (omega (arith, same, h))
-
+-- a number is a leaf's
 pub number-shown : (t : Tree) (z : ℤ) → tree_cell t ≡ number z → kind_of_leaf t ≡ Some k.Int
 number-shown t z e = ap kind_of_leaf (number-tree t z e)
 

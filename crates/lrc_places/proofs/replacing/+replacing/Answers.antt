@@ -1,4 +1,4 @@
-use Rattle.std.proofs.Common.{◌≡◌, ◌+◌, ◌-◌, length, take, drop, get_or, arith}
+use Rattle.std.proofs.Common.{◌≡◌, ◌+◌, ◌-◌, ◌<◌, length, take, drop, get_or, arith}
 use Rattle.std.proofs.lemmas.Grind.{common_steps}
 use Rattle.lrc_meaning.specs.Tree.{replaced, replaced_among}
 use Rattle.lrc_store.specs.Cells.{nil}
@@ -6,10 +6,25 @@ use Rattle.lrc_store.proofs.Known.{stands-known}
 use Rattle.lrc_code.specs.Forms.{node_cell, more_cell, tree_cell}
 use Rattle.lrc_code.proofs.Growing.{left-within, right-within}
 use Rattle.lrc_places.specs.Places.{kids_cell}
-use Rattle.lrc_places.proofs.BuildLemmas.{work, read-stands, stopped, node-over, first-over, others-over, node-replaced, first-replaced, others-replaced, each-below}
+use Rattle.lrc_places.proofs.BuildLemmas.{work, step-taken, kids-below, read-stands, stopped, node-over, first-over, others-over, node-replaced, first-replaced, others-replaced, each-below}
 use Rattle.lrc_places.proofs.replacing.+replacing.Goals as goal
 
 -- ---- the node
+
+pub replaced-replaced_among-requires : goal.replaced-replaced_among-requires
+replaced-replaced_among-requires g t c κs within =
+    let steps = c.args.steps.now in
+    let rest = take (length steps - 1) (drop 1 steps) in
+    let all : work steps ≡ t = c.decreases in
+    let less : get_or steps 0 0 + 1 + work rest < work steps = step-taken steps rest c.in-len1-up.len_at_least (grind (arith, common_steps)) in
+    let s = g.St.Store.state c.args.store.now in
+    let read = g.St.Store.state c.shape_of.new.store in
+    let (tree, whole, below) = c.requires.tree in
+    let (new, part) = c.requires.part in
+    let (kids, is, list) = c.in-Node.ensures.shape tree whole in (
+      omega (arith, all, less),
+      (within.0, (within.1, ((kids, list, kids-below tree c.in-Node.production kids is below), (new, read-stands s read c.args.part (tree_cell new) c.shape_of.ensures.reads part)))),
+    )
 
 pub replaced-returns-in_err-kids-clause-builds : goal.replaced-returns-in_err-kids-clause-builds
 replaced-returns-in_err-kids-clause-builds g t c tree new whole part =
