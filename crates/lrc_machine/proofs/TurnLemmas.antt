@@ -14,7 +14,8 @@ use Rattle.lrc_machine.specs.declared.turns.Step.TheVariants as step
 use Rattle.lrc_machine.specs.declared.turns.Turn.{Turn}
 use Rattle.lrc_machine.specs.declared.turns.Stop.{Stop}
 use Rattle.lrc_machine.specs.declared.turns.Stop.TheVariants as stop
-use Rattle.lrc_machine.specs.Machine.{Slots, Waiting, Waits, whole, over, RunsIn, IsTurn, HaveRoom, AtTurn, Stops, Turns}
+use Rattle.lrc_machine.specs.Waits.{whole, over}
+use Rattle.lrc_machine.specs.Machine.{Slots, Waiting, Awaits, RunsIn, IsTurn, HaveRoom, AtTurn, Stops, Turns}
 use Rattle.lrc_machine.proofs.WaitLemmas.{set_here, set_other, set_room, SameFrom, at_most, is_root, waits_on, lacks_up, met_up, waits_at}
 
 -- a turn that leads on, and one that does not
@@ -65,8 +66,8 @@ module _ {Frame Mark : Type 0} (asks : Standing → Call → ℕ → Type 0) (gi
     abbrev pub c : Call
     c = turn.turn.0
 
-    there : Waits waits s slots fuel root (suc below) c
-    there = subst (λ n. Waits waits s slots fuel root n c) at turn.turn.2
+    there : Awaits waits s slots fuel root (suc below) c
+    there = subst (λ n. Awaits waits s slots fuel root n c) at turn.turn.2
 
     room : below < length frames
     room = let le = at_most waits fuel root s slots (suc below) c there in let has = turn.frames in omega arith
@@ -77,7 +78,7 @@ module _ {Frame Mark : Type 0} (asks : Standing → Call → ℕ → Type 0) (gi
     more : Gains s t (meets (suc below) c) → Gains s t (meets fuel root)
     more gains = gains-more s t (meets (suc below) c) (meets fuel root) (met_up waits fuel root meets within s slots (suc below) c there) gains
 
-    still : Gains s t (meets (suc below) c) → Waits waits t (record { frames = after; marks = marks }) fuel root (suc below) c
+    still : Gains s t (meets (suc below) c) → Awaits waits t (record { frames = after; marks = marks }) fuel root (suc below) c
     still gains = waits_on waits fuel root lasts s t slots (record { frames = after; marks = marks }) gains.lasts (suc below) c (frame_below frames marks below (suc below) frame (omega arith)) there
 
     has_room : fuel ≤ length after
@@ -94,7 +95,7 @@ module _ {Frame Mark : Type 0} (asks : Standing → Call → ℕ → Type 0) (gi
           frames = has_room;
           marks = turn.marks;
           rooms = rooms_after;
-          turn = (c, subst (λ n. gives t n c given.0) (sym at) found, subst (λ n. Waits waits t (record { frames = after; marks = marks }) fuel root n c) (sym at) (still gains));
+          turn = (c, subst (λ n. gives t n c given.0) (sym at) found, subst (λ n. Awaits waits t (record { frames = after; marks = marks }) fuel root n c) (sym at) (still gains));
         })
 
     pub opened_begun : (mark : Mark) → Gains s t (meets (suc below) c) → runs t frame below c mark → Answers s t after marks (Ok (record { level = below; step = step.Go mark }))
@@ -120,7 +121,7 @@ module _ {Frame Mark : Type 0} (asks : Standing → Call → ℕ → Type 0) (gi
     abbrev pub goes : Call
     goes = turn.turn.0
 
-    waiting : Waits waits s slots fuel root (suc level) goes
+    waiting : Awaits waits s slots fuel root (suc level) goes
     waiting = turn.turn.3
 
     abbrev pub changed : List Frame
@@ -136,7 +137,7 @@ module _ {Frame Mark : Type 0} (asks : Standing → Call → ℕ → Type 0) (gi
     has_frames = let same = length-set frames level frame in let has = turn.frames in omega arith
 
     still_waits : (marks_after : List Mark) → ((k : ℕ) → suc level ≤ k → slice_get marks_after k ≡ slice_get marks k) → Gains s t (meets (suc level) goes)
-        → Waits waits t (record { frames = changed; marks = marks_after }) fuel root (suc level) goes
+        → Awaits waits t (record { frames = changed; marks = marks_after }) fuel root (suc level) goes
     still_waits marks_after same gains =
         waits_on waits fuel root lasts s t slots (record { frames = changed; marks = marks_after }) gains.lasts (suc level) goes
         (record { frames = λ k le. set_other frames level k frame (omega arith); marks = same }) waiting
@@ -194,7 +195,7 @@ module _ {Frame Mark : Type 0} (asks : Standing → Call → ℕ → Type 0) (gi
           frames = has_frames;
           marks = turn.marks;
           rooms = rooms_changed;
-          turn = (goes, subst (λ n. gives t n goes given.0) (sym at) found, subst (λ n. Waits waits t (record { frames = changed; marks = marks }) fuel root n goes) (sym at) (still_waits marks (λ k le. refl) gains));
+          turn = (goes, subst (λ n. gives t n goes given.0) (sym at) found, subst (λ n. Awaits waits t (record { frames = changed; marks = marks }) fuel root n goes) (sym at) (still_waits marks (λ k le. refl) gains));
         })
 
     pub went_deep : Gains s t (meets (suc level) goes) → lacks (suc level) goes → Answers s t changed marks (Err stop.Deep)
@@ -212,7 +213,7 @@ module _ {Frame Mark : Type 0} (asks : Standing → Call → ℕ → Type 0) (gi
     abbrev pub awaited : Call
     awaited = turn.turn.0
 
-    pub waiter : (above : Call) × Waiting waits s slots fuel root level above awaited × Waits waits s slots fuel root (suc level) above
+    pub waiter : (above : Call) × Waiting waits s slots fuel root level above awaited × Awaits waits s slots fuel root (suc level) above
     waiter = waits_at waits fuel root s slots level awaited less turn.turn.2
 
     pub resumed_at : (next : Mark) → Gains s t (meets (suc level) waiter.0) → runs t frame level waiter.0 next

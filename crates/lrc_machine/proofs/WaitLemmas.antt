@@ -6,7 +6,8 @@ use Rattle.lrc_visit_meaning.specs.Values.{Call}
 use Rattle.lrc_store.specs.Cells.{CellTree, IsWithin}
 use Rattle.lrc_store.specs.Standing.{Standing}
 use Rattle.lrc_store.specs.Words.{Lasts}
-use Rattle.lrc_machine.specs.Machine.{Slots, HaveRoom, Waiting, Waits, whole, over}
+use Rattle.lrc_machine.specs.Waits.{whole, over}
+use Rattle.lrc_machine.specs.Machine.{Slots, HaveRoom, Waiting, Awaits}
 
 -- a list of which one place was set
 pub set_here : {X : Type 0} (xs : List X) (i : ℕ) (x : X) → i < length xs → slice_get (slice_set xs i x) i ≡ Some x
@@ -38,16 +39,16 @@ pub record SameFrom {Frame Mark : Type 0} (n : ℕ) (old new : Slots Frame Mark)
   pub marks : (k : ℕ) → n ≤ k → slice_get new.marks k ≡ slice_get old.marks k
 
 module _ {Frame Mark : Type 0} (waits : Standing → Frame → ℕ → Call → Mark → Call → Type 0) (fuel : ℕ) (root : Call) where
-  pub at_most : (s : Standing) (slots : Slots Frame Mark) (n : ℕ) (c : Call) → Waits waits s slots fuel root n c → n ≤ fuel
+  pub at_most : (s : Standing) (slots : Slots Frame Mark) (n : ℕ) (c : Call) → Awaits waits s slots fuel root n c → n ≤ fuel
   at_most s slots n c (whole e f) = omega arith
   at_most s slots n c (over w rest) = let below = w.below in omega arith
 
-  pub is_root : (s : Standing) (slots : Slots Frame Mark) (n : ℕ) (c : Call) → n ≡ fuel → Waits waits s slots fuel root n c → c ≡ root
+  pub is_root : (s : Standing) (slots : Slots Frame Mark) (n : ℕ) (c : Call) → n ≡ fuel → Awaits waits s slots fuel root n c → c ≡ root
   is_root s slots n c at (whole e f) = f
   is_root s slots n c at (over w rest) = let below = w.below in absurd (omega arith)
 
   module _ (lasts : (s t : Standing) (f : Frame) (n : ℕ) (c : Call) (m : Mark) (d : Call) → waits s f n c m d → Lasts s t → waits t f n c m d) where
-    pub waits_on : (s t : Standing) (old new : Slots Frame Mark) → Lasts s t → (n : ℕ) (c : Call) → SameFrom n old new → Waits waits s old fuel root n c → Waits waits t new fuel root n c
+    pub waits_on : (s t : Standing) (old new : Slots Frame Mark) → Lasts s t → (n : ℕ) (c : Call) → SameFrom n old new → Awaits waits s old fuel root n c → Awaits waits t new fuel root n c
     waits_on s t old new last n c same (whole e f) = whole e f
     waits_on s t old new last n c same (over {c = above} w rest) =
         over
@@ -63,20 +64,20 @@ module _ {Frame Mark : Type 0} (waits : Standing → Frame → ℕ → Call → 
 
   module _ (lacks : ℕ → Call → Type 0)
       (deep : (s : Standing) (f : Frame) (n : ℕ) (c : Call) (m : Mark) (d : Call) → waits s f n c m d → lacks n d → lacks (suc n) c) where
-    pub lacks_up : (s : Standing) (slots : Slots Frame Mark) (n : ℕ) (c : Call) → Waits waits s slots fuel root n c → lacks n c → lacks fuel root
+    pub lacks_up : (s : Standing) (slots : Slots Frame Mark) (n : ℕ) (c : Call) → Awaits waits s slots fuel root n c → lacks n c → lacks fuel root
     lacks_up s slots n c (whole e f) lacking = subst (λ k. lacks k root) e (subst (λ d. lacks n d) f lacking)
     lacks_up s slots n c (over {c = above} w rest) lacking =
         lacks_up s slots (suc n) above rest (deep s w.frame n above w.mark c w.waits_for lacking)
 
   module _ (meets : ℕ → Call → List CellTree)
       (within : (s : Standing) (f : Frame) (n : ℕ) (c : Call) (m : Mark) (d : Call) → waits s f n c m d → IsWithin (meets n d) (meets (suc n) c)) where
-    pub met_up : (s : Standing) (slots : Slots Frame Mark) (n : ℕ) (c : Call) → Waits waits s slots fuel root n c → IsWithin (meets n c) (meets fuel root)
+    pub met_up : (s : Standing) (slots : Slots Frame Mark) (n : ℕ) (c : Call) → Awaits waits s slots fuel root n c → IsWithin (meets n c) (meets fuel root)
     met_up s slots n c (whole e f) cell there = subst (λ k. Contains (meets k root) cell) e (subst (λ d. Contains (meets n d) cell) f there)
     met_up s slots n c (over {c = above} w rest) cell there =
         met_up s slots (suc n) above rest cell (within s w.frame n above w.mark c w.waits_for cell there)
 
   -- what waits at a level below the root's
-  pub waits_at : (s : Standing) (slots : Slots Frame Mark) (n : ℕ) (c : Call) → n < fuel → Waits waits s slots fuel root n c
-      → (above : Call) × Waiting waits s slots fuel root n above c × Waits waits s slots fuel root (suc n) above
+  pub waits_at : (s : Standing) (slots : Slots Frame Mark) (n : ℕ) (c : Call) → n < fuel → Awaits waits s slots fuel root n c
+      → (above : Call) × Waiting waits s slots fuel root n above c × Awaits waits s slots fuel root (suc n) above
   waits_at s slots n c less (whole e f) = absurd (omega arith)
   waits_at s slots n c less (over {c = above} w rest) = (above, w, rest)

@@ -1,4 +1,5 @@
 pub mod Steps
+pub mod Waits
 pub mod Machine
 pub mod Levels
 pub mod Measure

@@ -4,6 +4,7 @@ use Rattle.lrc_visit_meaning.specs.Values.{Call}
 use Rattle.lrc_store.specs.Cells.{CellTree}
 use Rattle.lrc_store.specs.Standing.{Standing}
 use Rattle.lrc_store.specs.Words.{Gains, LacksOne}
+use Rattle.lrc_machine.specs.Waits.{Waits}
 use Rattle.lrc_machine.specs.declared.turns.Step.{Step}
 use Rattle.lrc_machine.specs.declared.turns.Step.TheVariants as step
 use Rattle.lrc_machine.specs.declared.turns.Turn.{Turn}
@@ -25,10 +26,9 @@ module _ {Frame Mark : Type 0} (waits : Standing → Frame → ℕ → Call → 
     pub below : n < fuel
     pub waits_for : waits s frame n c mark d
 
-  -- What asks for call c with fuel n: the root, or a body that waits for it, and what asks for the body's call.
-  pub data Waits : ℕ → Call → Type 0 where
-    whole : {n : ℕ} {c : Call} → n ≡ fuel → c ≡ root → Waits n c
-    over : {n : ℕ} {c d : Call} → Waiting n c d → Waits (suc n) c → Waits n d
+  -- what asks for a call with so much fuel: the root, or a body that waits for it, and what asks for the body's call
+  abbrev pub Awaits : ℕ → Call → Type 0
+  Awaits = Waits Waiting fuel root
 
 -- a body of the call runs at the mark over the level's frame
 pub record RunsIn {Frame Mark : Type 0} (runs : Standing → Frame → ℕ → Call → Mark → Type 0) (s : Standing) (frames : List Frame) (n : ℕ) (c : Call) (mark : Mark) : Type 0 where
@@ -44,10 +44,10 @@ module _ {Frame Mark : Type 0} (asks : Standing → Call → ℕ → Type 0) (gi
     (runs : Standing → Frame → ℕ → Call → Mark → Type 0) (waits : Standing → Frame → ℕ → Call → Mark → Call → Type 0) (fits : Frame → Type 0) where
   -- Whose turn it is: a call is to be opened, or its result is there, or a body goes on.
   abbrev pub IsTurn : Standing → Slots Frame Mark → ℕ → Call → ℕ → Step Mark → Type 0
-  IsTurn s slots fuel root level (step.Open handle) = (c : Call) × asks s c handle.0 × Waits waits s slots fuel root level c
-  IsTurn s slots fuel root level (step.Answer handle) = (c : Call) × gives s level c handle.0 × Waits waits s slots fuel root level c
+  IsTurn s slots fuel root level (step.Open handle) = (c : Call) × asks s c handle.0 × Awaits waits s slots fuel root level c
+  IsTurn s slots fuel root level (step.Answer handle) = (c : Call) × gives s level c handle.0 × Awaits waits s slots fuel root level c
   IsTurn s slots fuel root level (step.Go mark) =
-      (c : Call) × (level < fuel) × RunsIn runs s slots.frames level c mark × Waits waits s slots fuel root (suc level) c
+      (c : Call) × (level < fuel) × RunsIn runs s slots.frames level c mark × Awaits waits s slots fuel root (suc level) c
 
   -- besides, the fuel is a number of 32 bits, and each level has a mark and a frame with room
   pub record AtTurn (s : Standing) (slots : Slots Frame Mark) (fuel : ℕ) (root : Call) (level : ℕ) (next : Step Mark) : Type 0 where

@@ -4,4 +4,3 @@ pub mod ActionLemmas
 pub mod HitLemmas
 pub mod WaitLemmas
 pub mod MetCellLemmas
-pub mod MeasureLemmas

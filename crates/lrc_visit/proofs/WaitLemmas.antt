@@ -9,7 +9,7 @@ use Rattle.lrc_visit_meaning.specs.Visits.{plain_visit}
 use Rattle.lrc_visit_meaning.specs.Demand.{Met, reach}
 use Rattle.lrc_laws.proofs.FuelLemmas.{visit_bounded, visit_same}
 use Rattle.lrc_visit.specs.Points.{WaitsFor}
-use Rattle.lrc_visit.specs.Waits.{Waiting, Waits, whole, over}
+use Rattle.lrc_machine.specs.Waits.{Waiting, Waits, whole, over}
 use Rattle.lrc_visit.proofs.ActionLemmas.{inner_within, no_result, inner_lower}
 
 module _ (g : Grammar) (parts : List Partition) where

@@ -1,4 +1,2 @@
 pub mod Points
-pub mod Waits
-pub mod Measure
 pub mod Bodies

@@ -1,7 +1,8 @@
 use Rattle.std.proofs.Common.{◌≡◌, ℕ, ◌<◌, ◌≤◌, refl, sym, ap, ◌∙◌, subst, arith}
 use Rattle.std.proofs.lemmas.Result.{IfOk-at_ok, IfErr-at_err}
 use Rattle.lrc_store.proofs.Lasting.{gains-same, gains-then}
-use Rattle.lrc_machine.specs.Machine.{whole, IsInner, AtTurn, Stops}
+use Rattle.lrc_machine.specs.Waits.{whole}
+use Rattle.lrc_machine.specs.Machine.{IsInner, AtTurn, Stops}
 use Rattle.lrc_machine.specs.Levels.{slots_of}
 use Rattle.lrc_machine.proofs.RunLemmas.{is_inner, is_below, is_given}
 use Rattle.lrc_machine.proofs.running.run.Goals as goal
