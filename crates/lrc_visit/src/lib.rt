@@ -1,8 +1,10 @@
 //! Running visits over any store: what its remembered calls mean.
 #![tactic(auto)]
 
+mod frames;
 mod mark;
 mod remembered;
 
+pub use frames::Frames;
 pub use mark::Mark;
 pub use remembered::VisitMeaning;
