@@ -4,3 +4,4 @@ pub mod ActionLemmas
 pub mod HitLemmas
 pub mod WaitLemmas
 pub mod MetCellLemmas
+pub mod OpenLemmas

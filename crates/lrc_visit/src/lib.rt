@@ -2,6 +2,7 @@
 #![tactic(auto)]
 
 mod mark;
+mod opening;
 mod remembered;
 
 pub use mark::Mark;
