@@ -5,3 +5,4 @@ pub mod HitLemmas
 pub mod WaitLemmas
 pub mod MetCellLemmas
 pub mod OpenLemmas
+pub mod ResumeLemmas

@@ -4,6 +4,7 @@
 mod mark;
 mod opening;
 mod remembered;
+mod resuming;
 
 pub use mark::Mark;
 pub use remembered::VisitMeaning;
