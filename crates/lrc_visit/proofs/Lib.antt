@@ -6,3 +6,5 @@ pub mod WaitLemmas
 pub mod MetCellLemmas
 pub mod RoomLemmas
 pub mod BodyLemmas
+pub mod OpenLemmas
+pub mod ResumeLemmas

@@ -2,6 +2,7 @@
 use Rattle.std.specs.Prelude.{◌≡◌, ℕ, ◌-◌, ◌≤◌, List, [], flat_map, length, Some, None, Contains, slice_index_or}
 use Rattle.lrc_base.specs.declared.grammar.Production.{Production}
 use Rattle.lrc_meaning.specs.Grammar.{Grammar}
+use Rattle.lrc_grammar.specs.Grammar.{grammar_of}
 use Rattle.lrc_order_meaning.specs.declared.Partition.{Partition}
 use Rattle.lrc_plan_meaning.specs.Sound.{IsSound}
 use Rattle.lrc_visit_meaning.specs.Values.{Call, Result}
@@ -14,8 +15,10 @@ use Rattle.lrc_call_meaning.specs.Reached.{cells_of}
 use Rattle.lrc_call_meaning.specs.Spelled.{IsSpelledCall, IsSpelledResult}
 use Rattle.lrc_eval.specs.declared.values.Val.{Val}
 use Rattle.lrc_functions.specs.declared.function.Function.{Function}
+use Rattle.lrc_functions.specs.declared.functions.Functions.{Functions}
 use Rattle.lrc_frames.specs.Frames.{Run, RunsAt}
 use Rattle.lrc_visit.specs.declared.mark.Mark.{Mark}
+use Rattle.lrc_visit.specs.declared.remembered.VisitMeaning.{VisitMeaning}
 use Rattle.lrc_visit.specs.Points.{Point, AtVisit}
 
 -- how many actions the body at a mark has left
@@ -35,6 +38,10 @@ most_left productions = length (flat_map (λ functions. flat_map (λ (f : Functi
 -- the frame has room for the items of each production
 abbrev pub HasRoom : List ℕ → List Val → Type 0
 HasRoom counts frame = (n : ℕ) → Contains counts n → n ≤ length frame
+
+-- what is remembered means the visits of the functions' plan
+abbrev pub IsMeaningOf : Functions → VisitMeaning → Type 0
+IsMeaningOf functions meaning = (grammar_of meaning.grammar ≡ grammar_of functions.plan.grammar) × (meaning.parts ≡ functions.plan.parts)
 
 module _ (g : Grammar) (parts : List Partition) where
   -- the visit sequences of each production are sound

@@ -3,7 +3,9 @@
 
 mod frames;
 mod mark;
+mod opening;
 mod remembered;
+mod resuming;
 
 pub use frames::Frames;
 pub use mark::Mark;
