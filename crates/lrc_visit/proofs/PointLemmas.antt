@@ -189,7 +189,7 @@ module _ (g : Grammar) (parts : List Partition) where
         met_is : met_on g parts fuel r height (left at) ≡ acts ++ met_on g parts fuel next_run next_height (left (at + 1))
         met_is = ap (met_on g parts fuel r height) left_is ∙ ap (λ o. acts ++ option_map_or go_met o []) gives
 
-        proper_on : (y : Bound) → Contains (made_by (left at)) y ⊎ IsProper g parts y (r.held y) → Contains (made_by (left (at + 1))) y ⊎ IsProper g parts y (next_run.held y)
+        proper_on : (y : Bound) → Contains (made_by (left at)) y ⊎ IsProper y (r.held y) → Contains (made_by (left (at + 1))) y ⊎ IsProper y (next_run.held y)
         proper_on y (inr proper) = inr (holding_proper g parts here given.made r.held y (step_proper g parts fuel r.production r.kids r.held x given gives) (inr proper))
         proper_on y (inl lacking) =
             elim (Contains-append_cases here (made_by (left (at + 1))) y (subst (λ xs. Contains (made_by xs) y) left_is lacking)) [
@@ -245,7 +245,7 @@ module _ (g : Grammar) (parts : List Partition) where
       all_available : r.available ≡ handed_in g.sorts parts r.production c.visit ++ made_by (segment_of g parts c r)
       all_available = sym (append-nil r.available) ∙ ap (λ xs. r.available ++ made_by xs) (sym none_left) ∙ point.available
 
-      done_proper : (y : Bound) → Contains (made_by (left at)) y ⊎ IsProper g parts y (r.held y) → IsProper g parts y (r.held y)
+      done_proper : (y : Bound) → Contains (made_by (left at)) y ⊎ IsProper y (r.held y) → IsProper y (r.held y)
       done_proper y (inl lacking) = absurd (no_member y (subst (λ xs. Contains (made_by xs) y) none_left lacking))
       done_proper y (inr proper) = proper
 

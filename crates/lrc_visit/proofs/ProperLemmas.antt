@@ -43,7 +43,7 @@ module _ (g : Grammar) (parts : List Partition) where
   AreProper [] [] = ⊤
   AreProper [] (d ∷ ds) = ⊥
   AreProper (x ∷ xs) [] = ⊥
-  AreProper (x ∷ xs) (d ∷ ds) = IsProper g parts x d × AreProper xs ds
+  AreProper (x ∷ xs) (d ∷ ds) = IsProper x d × AreProper xs ds
 
   pub proper_both : (xs ys : List Bound) (ds es : List Datum) → AreProper xs ds → AreProper ys es → AreProper (xs ++ ys) (ds ++ es)
   proper_both [] ys [] es h l = l
@@ -63,12 +63,12 @@ module _ (g : Grammar) (parts : List Partition) where
   proper_bindings s v (w ∷ ws) [] e = absurd (omega arith)
   proper_bindings s v (w ∷ ws) (d ∷ ds) e = ((d, refl), proper_bindings s v ws ds (omega arith))
 
-  proper_at : (x y : Bound) (d e : Datum) → IsProper g parts x d → (x ≡ y) ⊎ IsProper g parts y e → IsProper g parts y (cond (same_item x y) d e)
+  proper_at : (x y : Bound) (d e : Datum) → IsProper x d → (x ≡ y) ⊎ IsProper y e → IsProper y (cond (same_item x y) d e)
   proper_at x y d e h k =
       elim (cases_Bool (same_item x y)) [
-        | inl same ↦ subst (λ t. IsProper g parts y (cond t d e)) (sym same) (subst (λ z. IsProper g parts z d) (same_items x y same) h)
+        | inl same ↦ subst (λ t. IsProper y (cond t d e)) (sym same) (subst (λ z. IsProper z d) (same_items x y same) h)
         | inr differ ↦
-            subst (λ t. IsProper g parts y (cond t d e)) (sym differ)
+            subst (λ t. IsProper y (cond t d e)) (sym differ)
             (elim k [
               | inl same ↦ absurd (false≢true (sym differ ∙ ap (same_item x) (sym same) ∙ item_itself x))
               | inr proper ↦ proper
@@ -76,7 +76,7 @@ module _ (g : Grammar) (parts : List Partition) where
       ]
 
   -- an item that held what is of its sort, or is given it, holds it
-  pub holding_proper : (xs : List Bound) (ds : List Datum) (m : Held) (y : Bound) → AreProper xs ds → Contains xs y ⊎ IsProper g parts y (m y) → IsProper g parts y (holding xs ds m y)
+  pub holding_proper : (xs : List Bound) (ds : List Datum) (m : Held) (y : Bound) → AreProper xs ds → Contains xs y ⊎ IsProper y (m y) → IsProper y (holding xs ds m y)
   holding_proper [] [] m y h (inl c) = absurd (no_member y c)
   holding_proper [] [] m y h (inr proper) = proper
   holding_proper [] (d ∷ ds) m y h k = absurd h
@@ -124,7 +124,7 @@ module _ (g : Grammar) (parts : List Partition) where
 
   -- at the start of a visit each inherited attribute holds a value
   pub start_proper : (p : Production) (c : Call) → IsSound g.sorts parts p → IsCalled p c → (y : Bound) → Contains (values_of_visit g.sorts parts true p.left 0 c.visit) y
-      → IsProper g parts y (held_at_start g parts p c y)
+      → IsProper y (held_at_start g parts p c y)
   start_proper p c sound is y member =
       let xs = values_of_visit g.sorts parts true p.left 0 c.visit in
       let ys = flat_map (λ u. items_between g.sorts parts p u c.visit) (range_with_len 1 (c.visit - 1)) in
@@ -135,7 +135,7 @@ module _ (g : Grammar) (parts : List Partition) where
       let here = holding_proper xs ds nothing_held y (proper_values 0 attrs c.inherited is.values) (inl member) in
       let old : holding ys es (holding xs ds nothing_held) y ≡ holding xs ds nothing_held y =
       holding_other ys es (holding xs ds nothing_held) y (inherited_new p sound c.visit is.first is.last y member) in
-      subst (IsProper g parts y) (sym (ap (λ (m : Held). m y) (holding_both xs ys ds es nothing_held size) ∙ old)) here
+      subst (IsProper y) (sym (ap (λ (m : Held). m y) (holding_both xs ys ds es nothing_held size) ∙ old)) here
 
   -- an action gives what is of the sorts of the items that it makes
   pub step_proper : (fuel : ℕ) (p : Production) (kids : Trees) (m : Held) (x : Action) (r : Given) → step g parts (plain_visit g parts fuel) p kids m x ≡ Some r

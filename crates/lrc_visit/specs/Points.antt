@@ -61,7 +61,7 @@ module _ (g : Grammar) (parts : List Partition) where
         ≡ handed_in g.sorts parts r.production c.visit ++ flat_map (makes g.sorts parts r.production) (segment_of c r)
     -- what becomes available in this visit is still to be made, or holds what is of its sort
     pub proper : (x : Bound) → Contains (gained g.sorts parts r.production c.visit (segment_of c r)) x
-        → Contains (flat_map (makes g.sorts parts r.production) (left_of c r at)) x ⊎ IsProper g parts x (r.held x)
+        → Contains (flat_map (makes g.sorts parts r.production) (left_of c r at)) x ⊎ IsProper x (r.held x)
     -- the walk of the rest is the walk of the whole, and with what it meets the call's reach is complete
     pub walks : walk_on fuel r height (left_of c r at) ≡ walk_on fuel (at_start g parts r.production r.kids c) 0 (segment_of c r)
     pub within : (x : Met) → Contains (met ++ met_on fuel r height (left_of c r at)) x → Contains (reach g parts (suc fuel) c) x
