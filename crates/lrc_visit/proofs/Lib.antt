@@ -4,3 +4,5 @@ pub mod ActionLemmas
 pub mod HitLemmas
 pub mod WaitLemmas
 pub mod MetCellLemmas
+pub mod AdvanceLemmas
+pub mod EndLemmas

@@ -1,6 +1,7 @@
 //! Running visits over any store: what its remembered calls mean.
 #![tactic(auto)]
 
+mod advancing;
 mod mark;
 mod remembered;
 
