@@ -111,7 +111,7 @@ module _ (g : Grammar) (parts : List Partition) (productions : List (List Functi
       run = faces.runs.run
 
       -- the action that the operation does
-      action : (x : Action) × (slice_get (segment_of g parts c run) mark.at ≡ Some x) × (operation_of g.sorts parts run.production x ≡ operation)
+      pub action : (x : Action) × (slice_get (segment_of g parts c run) mark.at ≡ Some x) × (operation_of g.sorts parts run.production x ≡ operation)
       action =
           let of = operation_of g.sorts parts run.production in
           let seg = segment g.sorts parts run.production in

@@ -61,13 +61,13 @@ module _ (g : Grammar) (parts : List Partition) (s : Standing) (frame : List Val
   abbrev reached : List CellTree
   reached = cells_of (reach g parts (suc fuel) c)
 
-  sound : IsSound g.sorts parts run.production
+  pub sound : IsSound g.sorts parts run.production
   sound = end.runs.asks.sound run.production (member_slice g.prods mark.body.production run.production point.there)
 
   own_function : function ≡ function_of g.sorts parts run.production c.visit
   own_function = end.is_function ∙ ap (function_of g.sorts parts run.production) end.runs.visit
 
-  all_done : length (segment_of g parts c run) ≤ mark.at
+  pub all_done : length (segment_of g parts c run) ≤ mark.at
   all_done =
       let of = operation_of g.sorts parts run.production in
       let seg = segment g.sorts parts run.production c.visit in
@@ -75,7 +75,7 @@ module _ (g : Grammar) (parts : List Partition) (s : Standing) (frame : List Val
       let last = end.last in
       omega (arith, size, last)
 
-  abbrev walked : Walked
+  abbrev pub walked : Walked
   walked = record { height = mark.height; held = run.held }
 
   abbrev outcome : plain.Result
@@ -158,7 +158,9 @@ module _ (g : Grammar) (parts : List Partition) (s : Standing) (frame : List Val
         is_result = by_height;
       }
 
+      -- the cells that are read off both are these
       reached_here : Told t.seen (IsWithin (reached_by g parts (meant t mark.call.0) (meant t made.0)))
+      unfolding allowed_here reached_by
       reached_here =
           subst (λ (cells : List CellTree). Told t.seen (IsWithin cells))
           (ap cells_of (sym (reach_same g parts outcome.height (suc fuel) c outcome by_height low)) ∙ sym (reached_is g parts (meant t mark.call.0) (meant t made.0) allowed_here)) all_told

@@ -1,16 +1,20 @@
-ghost use Rattle.std.specs.Prelude.{◌≡◌, ℕ, List, length};
+ghost use Rattle.std.specs.Prelude.{◌≡◌, ◌-◌, ◌<◌, ◌^◌, ℕ, suc, List, length, IfOk, OnErr};
 ghost use Rattle.lrc_meaning.specs.Grammar as meaning;
 ghost use Rattle.lrc_order_meaning.specs.declared.Partition.{Partition};
 ghost use Rattle.lrc_grammar.specs.Grammar.{grammar_of};
 ghost use Rattle.lrc_visit_meaning.specs.Values.{Call};
+ghost use Rattle.lrc_visit_meaning.specs.Demand.{reach};
+ghost use Rattle.lrc_store.specs.Words.{Gains, LacksOne};
+ghost use Rattle.lrc_call_meaning.specs.Reached.{cells_of};
 ghost use Rattle.lrc_functions.specs.declared.function.Operation.TheVariants as operation;
-ghost use Rattle.lrc_visit.specs.Advancing.{IsAtEnd, EndsWith, Faces, Advances};
+ghost use Rattle.lrc_visit.specs.Bodies.{Runs};
+ghost use Rattle.lrc_visit.specs.Advancing.{IsMeaningOf, IsAtEnd, EndsWith, Faces, Advances, MovesOn};
 
 use crate::mark::Mark;
 use crate::remembered::VisitMeaning;
 use lrc_eval::Val;
 use lrc_frames::{evaluate_into, finish, make_call};
-use lrc_functions::{Callee, Function, Functions};
+use lrc_functions::{Callee, Function, Functions, Operation};
 use lrc_machine::Moved;
 use lrc_store::{Full, Handle, Store};
 
@@ -82,4 +86,38 @@ fn end_body<St: Store<M = VisitMeaning>>(
     let outcome = finish(store, frame, function, mark.height + 1)?;
     store.remember(mark.call, outcome);
     Ok(outcome)
+}
+
+/// Does the next action of a body that stands at a level, and so has fuel level + 1, or ends it.
+///
+/// # Errors
+///
+/// Full, only where all rows are used and a cell of what the call meets is in none.
+pub(crate) fn advance_body<St: Store<M = VisitMeaning>>(
+    functions: &Functions,
+    store: &mut St,
+    frame: &mut [Val],
+    level: u32,
+    mark: Mark,
+) -> Result<Moved<Mark>, Full>
+    requires meaning { IsMeaningOf (St.meaning store.old) functions.now.plan }
+    requires low { level < 2 ^ 32 - 1 }
+    requires body { (c : Call) × Runs (grammar_of functions.now.plan.grammar) functions.now.plan.parts.sorts (St.state store.old) frame.old level c mark }
+    ensures gains { (c : Call) → Runs (grammar_of functions.now.plan.grammar) functions.now.plan.parts.sorts (St.state store.old) frame.old level c mark → Gains (St.state store.old) (St.state store.new) (cells_of (reach (grammar_of functions.now.plan.grammar) functions.now.plan.parts.sorts (suc level) c)) }
+    ensures moves { (c : Call) → Runs (grammar_of functions.now.plan.grammar) functions.now.plan.parts.sorts (St.state store.old) frame.old level c mark → IfOk result (MovesOn (grammar_of functions.now.plan.grammar) functions.now.plan.parts.sorts functions.now.productions (St.state store.new) frame.new level c mark) }
+    ensures full { (c : Call) → Runs (grammar_of functions.now.plan.grammar) functions.now.plan.parts.sorts (St.state store.old) frame.old level c mark → OnErr result (LacksOne (St.state store.new) (cells_of (reach (grammar_of functions.now.plan.grammar) functions.now.plan.parts.sorts (suc level) c))) }
+    ensures room { length frame.new ≡ length frame.old }
+    ensures same_meaning { St.meaning store.new ≡ St.meaning store.old }
+{
+    let function = functions.function(mark.body.production, mark.body.visit);
+    let operations = function.operations.as_slice();
+    if operations.len() <= mark.at {
+        return Ok(Moved::Ended(end_body(store, frame, function, mark)?));
+    }
+    match &operations[mark.at] {
+        Operation::Eval(occurrence, equation) => {
+            evaluate_next(functions, store, frame, mark, *occurrence, *equation)
+        }
+        Operation::Visit(callee) => visit_next(functions, store, frame, mark, callee),
+    }
 }
