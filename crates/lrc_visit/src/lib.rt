@@ -1,12 +1,7 @@
-//! Running visits over any store: what its remembered calls mean.
+//! The running visit over any store: a call is recalled, or its body runs on a frame, and its result is
+//! remembered.
 #![tactic(auto)]
 
-mod frames;
-mod mark;
-mod opening;
-mod remembered;
-mod resuming;
+mod visits;
 
-pub use frames::Frames;
-pub use mark::Mark;
-pub use remembered::VisitMeaning;
+pub use visits::{VisitFault, visit};

@@ -1,0 +1,12 @@
+pub mod ProperLemmas
+pub mod PointLemmas
+pub mod ActionLemmas
+pub mod HitLemmas
+pub mod WaitLemmas
+pub mod MetCellLemmas
+pub mod RoomLemmas
+pub mod BodyLemmas
+pub mod OpenLemmas
+pub mod ResumeLemmas
+pub mod AdvanceLemmas
+pub mod EndLemmas
