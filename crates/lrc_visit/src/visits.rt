@@ -28,7 +28,7 @@ impl<'a, St: Store<M = VisitMeaning>> Bodies<St> for Visits<'a> {
     ghost use Rattle.lrc_visit_meaning.specs.Demand as met;
     ghost use Rattle.lrc_call_meaning.specs.Reached as cells;
     ghost use Rattle.lrc_bodies.specs.Bodies as bodies;
-    ghost use Rattle.lrc_bodies.proofs.BodyLemmas as laws;
+    ghost use Rattle.lrc_bodies.proofs.LoopLemmas as laws;
     ghost use Rattle.lrc_bodies.proofs.HitLemmas as fuel;
     ghost use Rattle.std.specs.Prelude.{◌≡◌, None};
 
