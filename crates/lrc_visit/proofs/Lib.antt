@@ -4,5 +4,7 @@ pub mod ActionLemmas
 pub mod HitLemmas
 pub mod WaitLemmas
 pub mod MetCellLemmas
+pub mod RoomLemmas
+pub mod BodyLemmas
 pub mod OpenLemmas
 pub mod ResumeLemmas
