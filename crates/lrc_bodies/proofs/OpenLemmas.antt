@@ -1,5 +1,5 @@
 -- What is remembered of a call that is asked for is a result of its; and a body at its start runs.
-use Rattle.std.proofs.Common.{◌≡◌, ℕ, suc, ◌<◌, ◌≤◌, ◌-◌, ◌⊎◌, inl, inr, Bool, true, false, IsTrue, ℤ, pos, List, [], length, refl, sym, ap, ◌∙◌, subst, arith, Some, None, Contains, slice_get}
+use Rattle.std.proofs.Common.{◌≡◌, ℕ, ◌<◌, ◌≤◌, ◌-◌, ◌⊎◌, inl, inr, Bool, false, IsTrue, ℤ, pos, List, [], length, refl, sym, ap, ◌∙◌, subst, arith, Some, None}
 use Rattle.std.specs.Prelude.{◌↔◌, flat_map, slice_index_or}
 use Rattle.std.proofs.lemmas.Bool.{cases_lt, false≢true}
 use Rattle.std.proofs.lemmas.List.{get_or_past}
@@ -27,7 +27,6 @@ use Rattle.lrc_call_meaning.specs.Spelled.{IsSpelledResult}
 use Rattle.lrc_call_meaning.proofs.DecodingLemmas.{calls-injective}
 use Rattle.lrc_cell_laws.proofs.MeaningLemmas.{reached_is}
 use Rattle.lrc_functions.specs.declared.function.Function.{Function}
-use Rattle.lrc_frames.specs.declared.body.Body.{Body}
 use Rattle.lrc_frames.specs.Frames.{at_start}
 use Rattle.lrc_frames.specs.Steps.{Begins}
 use Rattle.lrc_bodies.specs.declared.mark.Mark.{Mark}

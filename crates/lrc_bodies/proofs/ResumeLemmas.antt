@@ -1,5 +1,6 @@
 -- A body that waits stands at an operation of its function, and goes on behind it with the result that the visit gave.
-use Rattle.std.proofs.Common.{◌≡◌, ℕ, suc, ◌+◌, ◌-◌, ◌<◌, ◌≤◌, ◌^◌, min, max, List, [], ◌∷◌, ◌++◌, length, map, get_or, refl, sym, ap, ◌∙◌, subst, arith, Option, Some, None, slice_get}
+use Rattle.std.proofs.Common.{◌≡◌, ℕ, ◌+◌, ◌-◌, ◌<◌, ◌≤◌, ◌^◌, min, max, List, [], ◌++◌, length, map, get_or, sym, ap, ◌∙◌, subst, arith, Option, Some, None, slice_get}
+use Rattle.std.specs.Prelude.{IfSome}
 use Rattle.std.proofs.lemmas.List.{length-map, get_or-map, get_or_default}
 use Rattle.std.proofs.lemmas.Option.{slice_get_within, get_or_from_slice_get}
 use Rattle.lrc_meaning.specs.Grammar.{Grammar}
@@ -9,8 +10,8 @@ use Rattle.lrc_plan_meaning.specs.declared.Action.{Action}
 use Rattle.lrc_plan_meaning.specs.declared.Action.TheVariants as a
 use Rattle.lrc_plan_meaning.specs.Items.{visits_of}
 use Rattle.lrc_plan_meaning.specs.Sequences.{segment}
-use Rattle.lrc_visit_meaning.specs.Values.{Call, Result}
-use Rattle.lrc_visit_meaning.specs.Visits.{given_by, plain_visit}
+use Rattle.lrc_visit_meaning.specs.Values.{Call}
+use Rattle.lrc_visit_meaning.specs.Visits.{given_by}
 use Rattle.lrc_visit_meaning.specs.Demand.{Met, reach}
 use Rattle.lrc_store.specs.Cells.{CellTree, IsWithin}
 use Rattle.lrc_store.specs.Standing.{Standing, Told}
@@ -19,6 +20,7 @@ use Rattle.lrc_laws.proofs.FuelLemmas.{visit_bounded}
 use Rattle.lrc_eval.specs.declared.values.Val.{Val}
 use Rattle.lrc_eval.proofs.CellLemmas.{told-lasts}
 use Rattle.lrc_call_meaning.specs.Reached.{cells_of}
+use Rattle.lrc_plan.proofs.ReadLemmas.{in_some}
 use Rattle.lrc_functions.specs.declared.function.Callee.{Callee}
 use Rattle.lrc_functions.specs.declared.function.Function.{Function}
 use Rattle.lrc_functions.specs.declared.function.Operation.{Operation}
@@ -30,7 +32,7 @@ use Rattle.lrc_frames.specs.Frames.{Run, after}
 use Rattle.lrc_frames.specs.Taking.{TakesFrom, Takes}
 use Rattle.lrc_bodies.specs.declared.mark.Mark.{Mark}
 use Rattle.lrc_bodies.specs.Points.{Point}
-use Rattle.lrc_bodies.specs.Bodies.{no_function, function_at, left_at, Asks, Gives, Runs, WaitsAt}
+use Rattle.lrc_bodies.specs.Bodies.{no_function, function_at, left_at, Gives, Runs, WaitsAt}
 use Rattle.lrc_bodies.proofs.ProperLemmas.{called}
 use Rattle.lrc_bodies.proofs.ActionLemmas.{visit_there, visits, is_of}
 use Rattle.lrc_bodies.proofs.MetCellLemmas.{cells_of_both}
@@ -85,10 +87,14 @@ module _ (g : Grammar) (parts : List Partition) where
     pub last : mark.body.visit ≤ visits_of parts w.run.production.left
     last = subst (λ v. v ≤ visits_of parts w.run.production.left) (sym w.visit) (called g parts w.run.production w.run.kids c w.stands.point.visited).last
 
+    -- the body's function is the one that is found by its production and visit,
+    pub function_is : (f : Function) → IfSome (slice_get g.prods mark.body.production) (λ p. f ≡ function_of g.sorts parts p mark.body.visit) → f ≡ function_of g.sorts parts w.run.production mark.body.visit
+    function_is f h = in_some (λ p. f ≡ function_of g.sorts parts p mark.body.visit) (slice_get g.prods mark.body.production) w.run.production there h
+
     action : slice_get (segment g.sorts parts w.run.production mark.body.visit) mark.at ≡ Some (a.Visit w.symbol w.visit_there)
     action = subst (λ v. slice_get (segment g.sorts parts w.run.production v) mark.at ≡ Some (a.Visit w.symbol w.visit_there)) (sym w.visit) w.stands.action
 
-    -- the body's function has an operation there
+    -- it has an operation there,
     pub operation_within : (f : Function) → f ≡ function_of g.sorts parts w.run.production mark.body.visit → mark.at < length f.operations
     operation_within f is =
         let actions = segment g.sorts parts w.run.production mark.body.visit in
@@ -118,9 +124,6 @@ module _ (g : Grammar) (parts : List Partition) where
         omega (arith, within, size, on)
 
     module _ (given : ℕ) (gives : Gives g parts s fuel d given) where
-      abbrev pub outcome : Result
-      outcome = gives.outcome
-
       -- the result is taken,
       pub takes_from : (callee : Callee) → callee ≡ callee_of g.sorts parts w.run.production w.symbol w.visit_there → TakesFrom g parts s frame mark.body w.run callee given w.symbol w.visit_there gives.outcome
       takes_from callee is = record {

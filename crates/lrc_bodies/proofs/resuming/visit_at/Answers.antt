@@ -1,9 +1,9 @@
 use Rattle.std.proofs.Common.{◌≡◌, slice_get, sym, ap, ◌∙◌, arith, length}
 use Rattle.lrc_grammar.specs.Grammar.{grammar_of}
 use Rattle.lrc_plan.specs.Planned.{IsVisit}
-use Rattle.lrc_plan.proofs.ReadLemmas.{if_some, in_some}
-use Rattle.lrc_functions.specs.Functions.{callee_of, function_of}
-use Rattle.lrc_bodies.proofs.ResumeLemmas.{no_evaluation, there, first, last, operation_within, operation_is, callee_is}
+use Rattle.lrc_plan.proofs.ReadLemmas.{if_some}
+use Rattle.lrc_functions.specs.Functions.{callee_of}
+use Rattle.lrc_bodies.proofs.ResumeLemmas.{no_evaluation, there, first, last, function_is, operation_within, operation_is, callee_is}
 use Rattle.lrc_bodies.proofs.resuming.visit_at.Goals as goal
 
 pub function-function-requires-clause-visit : goal.function-function-requires-clause-visit
@@ -26,11 +26,9 @@ offset_bounds-as_slice-mark c =
     let q = c.requires in
     let w = q.5 in
     let found = c.function-function.result.now in
-    let is = in_some (λ p. found ≡ function_of grammar.sorts plan.parts.sorts p mark.body.visit) (slice_get grammar.prods mark.body.production) w.run.production
-    (there grammar plan.parts.sorts q.0 q.1 q.2 q.3 mark q.4 w) c.function-function.ensures in
+    let is = function_is grammar plan.parts.sorts q.0 q.1 q.2 q.3 mark q.4 w found c.function-function.ensures in
     let within = operation_within grammar plan.parts.sorts q.0 q.1 q.2 q.3 mark q.4 w found is in
-    let same = c.as_slice.ensures in
-    let size : length c.as_slice.result.now ≡ length found.operations = ap length same in
+    let size : length c.as_slice.result.now ≡ length found.operations = ap length c.as_slice.ensures in
     let fits = c.as_slice.type_inv.1 in
     omega (arith, within, size, fits)
 
@@ -43,8 +41,7 @@ bounds-as_slice-mark c =
     let q = c.requires in
     let w = q.5 in
     let found = c.function-function.result.now in
-    let is = in_some (λ p. found ≡ function_of grammar.sorts plan.parts.sorts p mark.body.visit) (slice_get grammar.prods mark.body.production) w.run.production
-    (there grammar plan.parts.sorts q.0 q.1 q.2 q.3 mark q.4 w) c.function-function.ensures in
+    let is = function_is grammar plan.parts.sorts q.0 q.1 q.2 q.3 mark q.4 w found c.function-function.ensures in
     let within = operation_within grammar plan.parts.sorts q.0 q.1 q.2 q.3 mark q.4 w found is in
     let size : length c.as_slice.result.now ≡ length found.operations = ap length c.as_slice.ensures in
     omega (arith, within, size)
@@ -58,8 +55,7 @@ unreachable-requires c =
     let q = c.requires in
     let w = q.5 in
     let found = c.function-function.result.now in
-    let is = in_some (λ p. found ≡ function_of grammar.sorts plan.parts.sorts p mark.body.visit) (slice_get grammar.prods mark.body.production) w.run.production
-    (there grammar plan.parts.sorts q.0 q.1 q.2 q.3 mark q.4 w) c.function-function.ensures in
+    let is = function_is grammar plan.parts.sorts q.0 q.1 q.2 q.3 mark q.4 w found c.function-function.ensures in
     no_evaluation c.in-Eval.field-0 c.in-Eval.field-1 (callee_of grammar.sorts plan.parts.sorts w.run.production w.symbol w.visit_there)
     (sym c.in-Eval.is ∙ operation_is grammar plan.parts.sorts q.0 q.1 q.2 q.3 mark q.4 w found c.as_slice.result.now c.index-as_slice-mark.result is c.as_slice.ensures c.index-as_slice-mark.is)
 
@@ -72,8 +68,7 @@ returns-clause-place c =
     let q = c.requires in
     let w = q.5 in
     let found = c.function-function.result.now in
-    let is = in_some (λ p. found ≡ function_of grammar.sorts plan.parts.sorts p mark.body.visit) (slice_get grammar.prods mark.body.production) w.run.production
-    (there grammar plan.parts.sorts q.0 q.1 q.2 q.3 mark q.4 w) c.function-function.ensures in
+    let is = function_is grammar plan.parts.sorts q.0 q.1 q.2 q.3 mark q.4 w found c.function-function.ensures in
     let within = operation_within grammar plan.parts.sorts q.0 q.1 q.2 q.3 mark q.4 w found is in
     let size : length c.as_slice.result.now ≡ length found.operations = ap length c.as_slice.ensures in
     let fits = c.as_slice.type_inv.1 in
@@ -86,6 +81,5 @@ returns-clause-callee c s frame fuel call d w =
     let grammar = grammar_of plan.grammar in
     let mark = c.args.mark in
     let found = c.function-function.result.now in
-    let is = in_some (λ p. found ≡ function_of grammar.sorts plan.parts.sorts p mark.body.visit) (slice_get grammar.prods mark.body.production) w.run.production
-    (there grammar plan.parts.sorts s frame fuel call mark d w) c.function-function.ensures in
+    let is = function_is grammar plan.parts.sorts s frame fuel call mark d w found c.function-function.ensures in
     callee_is grammar plan.parts.sorts s frame fuel call mark d w found c.as_slice.result.now c.index-as_slice-mark.result c.in-Visit.callee is c.as_slice.ensures c.index-as_slice-mark.is c.in-Visit.is
