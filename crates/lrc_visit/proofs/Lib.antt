@@ -6,3 +6,4 @@ pub mod WaitLemmas
 pub mod MetCellLemmas
 pub mod AdvanceLemmas
 pub mod EndLemmas
+pub mod BodyLemmas
