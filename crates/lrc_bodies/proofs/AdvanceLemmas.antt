@@ -1,15 +1,13 @@
 -- The next step of a body: the action behind the operation that stands there, and what its evaluation, its visit or its end
 -- answers.
-use Rattle.std.proofs.Common.{◌≡◌, ℕ, suc, ◌+◌, ◌-◌, ◌<◌, ◌≤◌, ◌^◌, Bool, true, false, IsTrue, inl, inr, List, [], ◌∷◌, ◌++◌, length, map, Contains, Option, Some, None, slice_get, get_or, refl, sym, ap, ◌∙◌, subst, arith}
+use Rattle.std.proofs.Common.{◌≡◌, ℕ, suc, ◌+◌, ◌-◌, ◌<◌, ◌≤◌, Bool, true, false, IsTrue, inl, inr, List, [], ◌∷◌, ◌++◌, length, map, Option, Some, None, slice_get, get_or, refl, sym, ap, ◌∙◌, subst, arith}
 use Rattle.std.specs.Prelude.{Result, Ok, Err, IsErr}
-use Rattle.std.specs.List.{range_with_len}
 use Rattle.std.proofs.lemmas.Option.{none-some, same_Some, slice_get-map, slice_get_within, slice_get_past, get_or_from_slice_get}
 use Rattle.std.proofs.lemmas.Bool.{cases_lt, false≢true}
 use Rattle.std.specs.Option.{option_map_or}
 use Rattle.std.proofs.lemmas.List.{get_or-map}
 use Rattle.std.proofs.lemmas.List.FromFn.{get_or-map-range_with_len}
 use Rattle.lrc_base.specs.declared.grammar.Production.{Production}
-use Rattle.lrc_meaning.specs.Tree.{Tree}
 use Rattle.lrc_meaning.specs.Grammar.{Grammar, Occurrence, occurrences_of}
 use Rattle.lrc_order_meaning.specs.declared.Partition.{Partition}
 use Rattle.lrc_plan_meaning.specs.declared.Action.{Action}
@@ -18,11 +16,11 @@ use Rattle.lrc_plan_meaning.specs.Items.{visits_of}
 use Rattle.lrc_plan_meaning.specs.Sequences.{segment, is_defined}
 use Rattle.lrc_plan_meaning.specs.Sound.{IsSound}
 use Rattle.lrc_visit_meaning.specs.Values.{value, Call}
-use Rattle.lrc_visit_meaning.specs.Visits.{evaluated, call_of, plain_visit}
-use Rattle.lrc_visit_meaning.specs.Demand.{Met, reach}
+use Rattle.lrc_visit_meaning.specs.Visits.{call_of}
+use Rattle.lrc_visit_meaning.specs.Demand.{reach}
 use Rattle.lrc_store.specs.Cells.{CellTree, IsWithin}
-use Rattle.lrc_store.specs.Standing.{Standing, Stands, Told}
-use Rattle.lrc_store.specs.Words.{Keeps, Lasts, Gains, LacksOne}
+use Rattle.lrc_store.specs.Standing.{Standing, Stands}
+use Rattle.lrc_store.specs.Words.{Keeps, Gains}
 use Rattle.lrc_store.specs.declared.cells.Handle.{Handle}
 use Rattle.lrc_store.specs.declared.stores.Full.{Full}
 use Rattle.lrc_store.proofs.Lasting.{gains-more, lacks-more}
@@ -35,7 +33,7 @@ use Rattle.lrc_functions.specs.declared.function.Function.{Function}
 use Rattle.lrc_functions.specs.declared.function.Operation.{Operation}
 use Rattle.lrc_functions.specs.declared.function.Operation.TheVariants as op
 use Rattle.lrc_functions.specs.Functions.{callee_of, operation_of, function_of, functions_of}
-use Rattle.lrc_frames.specs.Frames.{Run, RunsAt, after}
+use Rattle.lrc_frames.specs.Frames.{Run, after}
 use Rattle.lrc_frames.specs.Steps.{Evaluates, Calls, evaluation_cells, call_cells}
 use Rattle.lrc_frames.specs.Writing.{CanEvaluate, CanCall}
 use Rattle.lrc_frames.proofs.FrameLemmas.{runs_last}
@@ -45,13 +43,12 @@ use Rattle.lrc_order_meaning.proofs.MemberLemmas.{member_slice}
 use Rattle.lrc_laws.proofs.FuelLemmas.{mapped}
 use Rattle.lrc_bodies.specs.declared.mark.Mark.{Mark}
 use Rattle.lrc_bodies.specs.Points.{evaluation_met, segment_of, Point}
-use Rattle.lrc_bodies.specs.Bodies.{no_function, function_at, left_at, Asks, Runs}
+use Rattle.lrc_bodies.specs.Bodies.{no_function, function_at, Asks, Runs}
 use Rattle.lrc_bodies.specs.Advancing.{Faces, Advances}
 use Rattle.lrc_bodies.proofs.ProperLemmas.{called, IsCalled}
 use Rattle.lrc_bodies.proofs.PointLemmas.{needed}
 use Rattle.lrc_bodies.proofs.ActionLemmas.{evaluation_cells_are, defined, no_value, evaluates, visit_there, no_call}
 use Rattle.lrc_bodies.proofs.MetCellLemmas.{cells_of_both, evaluation_cells_within, call_cells_within}
-
 
 -- ---- operations and actions
 
@@ -152,7 +149,7 @@ module _ (g : Grammar) (parts : List Partition) (productions : List (List Functi
       can_evaluate = record {
         runs = faces.runs.runs;
         occurrence = defined_below (occurrences_of g.sorts run_here.production) o
-        (defined g parts fuel c mark.body.production run_here mark.at mark.height faces.runs.met point_here o next_eval (sound_there faces.runs));
+            (defined g parts fuel c mark.body.production run_here mark.at mark.height faces.runs.met point_here o next_eval (sound_there faces.runs));
         operation = is_operation;
         needed = needed g parts fuel c mark.body.production run_here mark.at mark.height faces.runs.met point_here (a.Eval o) next_eval;
       }
@@ -198,10 +195,10 @@ module _ (g : Grammar) (parts : List Partition) (productions : List (List Functi
                   visit = faces.runs.visit;
                   runs = h.ok.2;
                   seen = told-each t.seen (cells_of met) (evaluation_cells g parts run_here o) (cells_of (met ++ evaluation_met g parts run_here o))
-                  (λ seen old new.
-                  cells_of_both met (evaluation_met g parts run_here o) seen old
-                  (subst (λ (cells : List CellTree). IsWithin cells seen) (sym (evaluation_cells_are g parts run_here o)) new))
-                  (told-lasts s.seen t.seen (cells_of met) lasts.seen faces.runs.seen) h.ok.3;
+                      (λ seen old new.
+                      cells_of_both met (evaluation_met g parts run_here o) seen old
+                      (subst (λ (cells : List CellTree). IsWithin cells seen) (sym (evaluation_cells_are g parts run_here o)) new))
+                      (told-lasts s.seen t.seen (cells_of met) lasts.seen faces.runs.seen) h.ok.3;
                   low = faces.runs.low;
                 },
                 (let less = some_left (op.Eval o equation) faces in omega (arith, less)),

@@ -1,6 +1,6 @@
 -- The end of a body: its result is made, and may be remembered, since all that its call meets is in the store for good.
-use Rattle.std.proofs.Common.{◌≡◌, ℕ, suc, ◌+◌, ◌-◌, ◌<◌, ◌≤◌, ◌^◌, List, length, map, Contains, Option, Some, None, refl, sym, ap, ◌∙◌, subst, arith}
-use Rattle.std.specs.Prelude.{Result, Ok, Err, IsErr}
+use Rattle.std.proofs.Common.{◌≡◌, ℕ, suc, ◌+◌, ◌<◌, ◌≤◌, ◌^◌, List, length, Option, Some, None, refl, sym, ap, ◌∙◌, subst, arith}
+use Rattle.std.specs.Prelude.{Result, Ok, Err, IsErr, OnErr}
 use Rattle.std.proofs.lemmas.Bool.{false≢true}
 use Rattle.std.proofs.lemmas.List.{length-map}
 use Rattle.lrc_meaning.specs.Grammar.{Grammar}
@@ -12,17 +12,15 @@ use Rattle.lrc_visit_meaning.specs.Values as plain
 use Rattle.lrc_visit_meaning.specs.Values.{Call}
 use Rattle.lrc_visit_meaning.specs.Visits.{Walked, plain_visit}
 use Rattle.lrc_visit_meaning.specs.Demand.{reach}
-use Rattle.lrc_store.specs.Cells.{CellTree, parts as parts_of, HoldsParts, IsWithin}
+use Rattle.lrc_store.specs.Cells.{CellTree, parts as parts_of, IsWithin}
 use Rattle.lrc_store.specs.Standing.{Standing, Stands, IsKnown, IsSound as IsStoreSound, Told, meant}
-use Rattle.lrc_store.specs.Words.{Stays, Gains, LacksOne}
+use Rattle.lrc_store.specs.Words.{Stays, LacksOne}
 use Rattle.lrc_store.specs.declared.cells.Handle.{Handle}
 use Rattle.lrc_store.specs.declared.stores.Full.{Full}
 use Rattle.lrc_store.proofs.Known.{stands-known, stands-meant}
 use Rattle.lrc_store.proofs.Lasting.{gains-more, gains-then, lacks-more, stays-gains}
-use Rattle.lrc_code.specs.Building.{Builds}
 use Rattle.lrc_call_meaning.specs.Forms.{call_form, result_form}
 use Rattle.lrc_call_meaning.specs.Reached.{cells_of}
-use Rattle.lrc_call_meaning.specs.Spelled.{IsSpelledResult}
 use Rattle.lrc_call_meaning.specs.Meaning.{Allows, reached_by}
 use Rattle.lrc_call_meaning.specs.Decoding.{read_call}
 use Rattle.lrc_call_meaning.proofs.DecodingLemmas.{call-back}
@@ -40,7 +38,6 @@ use Rattle.lrc_laws.proofs.SameReachLemmas.{reach_same}
 use Rattle.lrc_bodies.specs.declared.mark.Mark.{Mark}
 use Rattle.lrc_bodies.specs.declared.remembered.VisitMeaning.{VisitMeaning}
 use Rattle.lrc_bodies.specs.Points.{segment_of, Point}
-use Rattle.lrc_bodies.specs.Bodies.{Runs}
 use Rattle.lrc_bodies.specs.Advancing.{IsAtEnd, EndsWith}
 use Rattle.lrc_bodies.proofs.PointLemmas.{result, ends, is_done}
 use Rattle.lrc_bodies.proofs.MetCellLemmas.{result_cells_within, reached_within}
@@ -49,6 +46,12 @@ use Rattle.lrc_bodies.proofs.MetCellLemmas.{result_cells_within, reached_within}
 told_three : (o : Option (List CellTree)) (A B C D : List CellTree → Type 0) → ((seen : List CellTree) → A seen → B seen → C seen → D seen) → Told o A → Told o B → Told o C → Told o D
 told_three None A B C D all h k l = tt
 told_three (Some seen) A B C D all h k l = all seen h k l
+
+-- a body that does not end, since the store is full, lacks a cell of what its call meets
+pub lacks_one : {X : Type 0} (g : Grammar) (parts : List Partition) (s t : Standing) (fuel : ℕ) (c : Call) (e : Full) (answer : Result X Full) → EndsWith g parts s t fuel c (Err e)
+    → OnErr answer (LacksOne t (cells_of (reach g parts (suc fuel) c)))
+lacks_one g parts s t fuel c e (Ok x) end = tt
+lacks_one g parts s t fuel c e (Err f) end = end.full
 
 module _ (g : Grammar) (parts : List Partition) (s : Standing) (frame : List Val) (fuel : ℕ) (c : Call) (mark : Mark) (function : Function) (remembered : VisitMeaning)
     (end : IsAtEnd g parts s frame fuel c mark function remembered) where

@@ -1,5 +1,5 @@
 -- Bodies of visits over a store: what handles stand for, and where a body is in its actions.
-use Rattle.std.specs.Prelude.{◌≡◌, ℕ, ◌-◌, ◌≤◌, List, [], flat_map, length, Some, None, Contains, slice_index_or}
+use Rattle.std.specs.Prelude.{◌≡◌, ℕ, ◌-◌, ◌≤◌, List, [], flat_map, length, Some, Contains, slice_index_or}
 use Rattle.lrc_base.specs.declared.grammar.Production.{Production}
 use Rattle.lrc_meaning.specs.Grammar.{Grammar}
 use Rattle.lrc_grammar.specs.Grammar.{grammar_of}
@@ -8,7 +8,7 @@ use Rattle.lrc_plan_meaning.specs.Sound.{IsSound}
 use Rattle.lrc_visit_meaning.specs.Values.{Call, Result}
 use Rattle.lrc_visit_meaning.specs.Visits.{plain_visit}
 use Rattle.lrc_visit_meaning.specs.Demand.{Met, reach}
-use Rattle.lrc_store.specs.Cells.{CellTree, IsWithin}
+use Rattle.lrc_store.specs.Cells.{IsWithin}
 use Rattle.lrc_store.specs.Standing.{Standing, Stands, Told}
 use Rattle.lrc_call_meaning.specs.Forms.{call_form, result_form}
 use Rattle.lrc_call_meaning.specs.Reached.{cells_of}
