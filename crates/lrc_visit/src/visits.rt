@@ -33,6 +33,7 @@ impl<'a, St: Store<M = VisitMeaning>> Bodies<St> for Visits<'a> {
     ghost use Rattle.std.specs.Prelude.{◌≡◌, None};
 
     type Frame = Vec<Val>;
+
     type Mark = Mark;
 
     ghost asks = { λ b s c h. bodies.Asks (grammar_of b.functions.now.plan.grammar) b.functions.now.plan.parts.sorts s c h };
@@ -55,13 +56,7 @@ impl<'a, St: Store<M = VisitMeaning>> Bodies<St> for Visits<'a> {
 
     ghost most = { λ b. bodies.most_left b.functions.now.productions };
 
-    fn open(
-        &self,
-        store: &mut St,
-        frame: &mut Vec<Val>,
-        level: u32,
-        call: Handle,
-    ) -> Opened<Mark> {
+    fn open(&self, store: &mut St, frame: &mut Vec<Val>, level: u32, call: Handle) -> Opened<Mark> {
         open_body(self.functions, store, frame, level, call)
     }
 

@@ -1,4 +1,4 @@
-use Rattle.std.proofs.Common.{◌≡◌, ◌∙◌, ◌≤◌, IfOk, length, drop, sym, subst, ap}
+use Rattle.std.proofs.Common.{◌∙◌, ◌≤◌, IfOk, length, drop, sym, subst, ap}
 use Rattle.std.proofs.lemmas.List.{take_at}
 use Rattle.lrc_grammar.specs.Grammar.{grammar_of}
 use Rattle.lrc_bodies.specs.Bodies.{Runs}

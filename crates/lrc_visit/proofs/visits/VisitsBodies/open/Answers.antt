@@ -1,4 +1,4 @@
-use Rattle.std.proofs.Common.{◌≡◌, ◌∙◌, ◌≤◌, length, drop, sym, subst, ap}
+use Rattle.std.proofs.Common.{◌∙◌, ◌≤◌, length, drop, sym, subst, ap}
 use Rattle.std.proofs.lemmas.List.{take_at}
 use Rattle.lrc_bodies.specs.Bodies.{HasRoom}
 use Rattle.lrc_visit.proofs.visits.VisitsBodies.open.Goals as goal

@@ -1,8 +1,8 @@
-use Rattle.std.proofs.Common.{◌≡◌, ◌∙◌, ◌<◌, ◌≤◌, ◌^◌, length, drop, sym, subst, ap, arith}
+use Rattle.std.proofs.Common.{◌∙◌, ◌<◌, ◌≤◌, ◌^◌, length, drop, sym, subst, ap, arith}
 use Rattle.std.proofs.lemmas.Int.{ints}
 use Rattle.std.proofs.lemmas.List.{take_at}
 use Rattle.lrc_grammar.specs.Grammar.{grammar_of}
-use Rattle.lrc_bodies.specs.Bodies.{HasRoom, Runs, WaitsAt}
+use Rattle.lrc_bodies.specs.Bodies.{Runs, WaitsAt}
 use Rattle.lrc_visit.proofs.visits.VisitsBodies.resume.Goals as goal
 
 pub returns-clause-room : goal.returns-clause-room
@@ -17,7 +17,7 @@ pub returns-clause-gains : goal.returns-clause-gains
 returns-clause-gains g c call other waits =
     let functions = c.args.self.now.functions.now in
     c.resume_body.ensures.gains c.args._level call other
-        (subst (λ frame. WaitsAt (grammar_of functions.plan.grammar) functions.plan.parts.sorts (g.St.Store.state c.args.store.now) frame c.args._level call c.args.mark other) (sym c.deref_mut.ensures.value) waits)
+    (subst (λ frame. WaitsAt (grammar_of functions.plan.grammar) functions.plan.parts.sorts (g.St.Store.state c.args.store.now) frame c.args._level call c.args.mark other) (sym c.deref_mut.ensures.value) waits)
 
 pub returns-clause-runs : goal.returns-clause-runs
 returns-clause-runs g c call other waits gives =
