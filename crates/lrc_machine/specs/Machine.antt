@@ -40,6 +40,12 @@ pub record RunsIn {Frame Mark : Type 0} (runs : Standing → Frame → ℕ → C
 abbrev pub HaveRoom : {Frame : Type 0} → (Frame → Type 0) → List Frame → Type 0
 HaveRoom {Frame} fits frames = (n : ℕ) (frame : Frame) → slice_get frames n ≡ Some frame → fits frame
 
+-- there are so many levels
+pub record HasLevels {Frame Mark : Type 0} (fits : Frame → Type 0) (slots : Slots Frame Mark) (fuel : ℕ) : Type 0 where
+  pub frames : fuel ≤ length slots.frames
+  pub marks : fuel ≤ length slots.marks
+  pub rooms : HaveRoom fits slots.frames
+
 module _ {Frame Mark : Type 0} (asks : Standing → Call → ℕ → Type 0) (gives : Standing → ℕ → Call → ℕ → Type 0)
     (runs : Standing → Frame → ℕ → Call → Mark → Type 0) (waits : Standing → Frame → ℕ → Call → Mark → Call → Type 0) (fits : Frame → Type 0) where
   -- Whose turn it is: a call is to be opened, or its result is there, or a body goes on.
@@ -52,9 +58,7 @@ module _ {Frame Mark : Type 0} (asks : Standing → Call → ℕ → Type 0) (gi
   -- besides, the fuel is a number of 32 bits, and each level has a mark and a frame with room
   pub record AtTurn (s : Standing) (slots : Slots Frame Mark) (fuel : ℕ) (root : Call) (level : ℕ) (next : Step Mark) : Type 0 where
     pub small : fuel < 2 ^ 32
-    pub frames : fuel ≤ length slots.frames
-    pub marks : fuel ≤ length slots.marks
-    pub rooms : HaveRoom fits slots.frames
+    pub levels : HasLevels fits slots fuel
     pub turn : IsTurn s slots fuel root level next
 
 -- a result that is there is not the root's
@@ -68,8 +72,10 @@ abbrev pub Stops : Standing → List CellTree → Type 0 → Stop → Type 0
 Stops t cells lacking stop.Full = LacksOne t cells
 Stops t cells lacking stop.Deep = lacking
 
--- What a turn of the machine answers: it gains at most what the root meets, and it is another turn, or there is no answer.
-pub record Turns {Mark : Type 0} (next : ℕ → Step Mark → Type 0) (s t : Standing) (cells : List CellTree) (lacking : Type 0) (answer : Result (Turn Mark) Stop) : Type 0 where
+-- What a turn of the machine answers: it gains at most what the root meets, keeps the levels, and it is another turn, or there
+-- is no answer.
+pub record Turns {Mark : Type 0} (next : ℕ → Step Mark → Type 0) (levels : Type 0) (s t : Standing) (cells : List CellTree) (lacking : Type 0) (answer : Result (Turn Mark) Stop) : Type 0 where
   pub gains : Gains s t cells
+  pub keeps : levels
   pub ok : IfOk answer (λ turn. next turn.level turn.step)
   pub stop : IfErr answer (Stops t cells lacking)

@@ -1,4 +1,4 @@
-ghost use Rattle.std.specs.Prelude.{◌≡◌, ◌≤◌, ◌<◌, ℕ, suc, List, IfOk, OnErr};
+ghost use Rattle.std.specs.Prelude.{◌≡◌, ◌-◌, ◌≤◌, ◌<◌, ◌^◌, ℕ, suc, List, IfOk, OnErr};
 ghost use Rattle.lrc_visit_meaning.specs.Values.{Call};
 ghost use Rattle.lrc_store.specs.Cells.{CellTree, IsWithin};
 ghost use Rattle.lrc_store.specs.Standing.{Standing};
@@ -76,6 +76,7 @@ pub trait Bodies<St: Store> {
         level: u32,
         call: Handle,
     ) -> Opened<Self::Mark>
+        requires level { level < 2 ^ 32 - 1 }
         requires meaning { means self.now (St.meaning store.old) }
         requires room { fits self.now frame.old }
         requires call { (c : Call) × asks self.now (St.state store.old) c call.0 }
@@ -96,6 +97,7 @@ pub trait Bodies<St: Store> {
         level: u32,
         mark: Self::Mark,
     ) -> Result<Moved<Self::Mark>, Full>
+        requires level { level < 2 ^ 32 - 1 }
         requires meaning { means self.now (St.meaning store.old) }
         requires room { fits self.now frame.old }
         requires body { (c : Call) × runs self.now (St.state store.old) frame.old level c mark }

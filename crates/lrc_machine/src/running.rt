@@ -1,7 +1,8 @@
 ghost use Rattle.std.specs.Prelude.{◌≡◌, ◌≤◌, ◌<◌, ◌^◌, length, IfOk, IfErr};
 ghost use Rattle.lrc_visit_meaning.specs.Values.{Call};
 ghost use Rattle.lrc_store.specs.Words.{Gains};
-ghost use Rattle.lrc_machine.specs.Machine.{HaveRoom, Stops};
+ghost use Rattle.lrc_machine.specs.Machine.{HasLevels, Stops};
+ghost use Rattle.lrc_machine.specs.Levels.{slots_of};
 
 use crate::bodies::Bodies;
 use crate::turns::{Levels, Step, Stop, Turn, next};
@@ -23,9 +24,8 @@ pub fn run<St: Store, B: Bodies<St>>(
 ) -> Result<Handle, Stop>
     requires meaning { B.means bodies.now (St.meaning store.old) }
     requires call { (c : Call) × B.asks bodies.now (St.state store.old) c call.0 }
-    requires frames { fuel ≤ length levels.old.frames.items }
-    requires marks { fuel ≤ length levels.old.marks.items }
-    requires rooms { HaveRoom (B.fits bodies.now) levels.old.frames.items }
+    requires levels { HasLevels (B.fits bodies.now) (slots_of levels.old) fuel }
+    ensures levels { HasLevels (B.fits bodies.now) (slots_of levels.new) fuel }
     ensures gains { (c : Call) → B.asks bodies.now (St.state store.old) c call.0 → Gains (St.state store.old) (St.state store.new) (B.meets bodies.now fuel c) }
     ensures gives { (c : Call) → B.asks bodies.now (St.state store.old) c call.0 → IfOk result (λ given. B.gives bodies.now (St.state store.new) fuel c given.0) }
     ensures stops { (c : Call) → B.asks bodies.now (St.state store.old) c call.0 → IfErr result (Stops (St.state store.new) (B.meets bodies.now fuel c) (B.lacks bodies.now fuel c)) }

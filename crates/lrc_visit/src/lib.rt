@@ -1,9 +1,7 @@
-//! Running visits over any store: what its remembered calls mean.
+//! The running visit over any store: a call is recalled, or its body runs on a frame, and its result is
+//! remembered.
 #![tactic(auto)]
 
-mod advancing;
-mod mark;
-mod remembered;
+mod visits;
 
-pub use mark::Mark;
-pub use remembered::VisitMeaning;
+pub use visits::{VisitFault, visit};

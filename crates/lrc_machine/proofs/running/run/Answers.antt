@@ -13,7 +13,7 @@ turns-init g c =
     let small = c.ranges.fuel.fits in
     record {
       gains = λ root asked. gains-same (g.St.Store.state c.args.store.now) (g.B.Bodies.meets c.args.bodies.now c.args.fuel root);
-      at = λ root asked. record { small = small; frames = c.requires.frames; marks = c.requires.marks; rooms = c.requires.rooms; turn = (root, asked, whole refl refl) };
+      at = λ root asked. record { small = small; levels = c.requires.levels; turn = (root, asked, whole refl refl) };
       same_meaning = refl;
     }
 
@@ -22,6 +22,23 @@ returns-then-turn-fuel-clause-gives g c root asked =
     let b = c.args.bodies.now in
     is_given (g.B.Bodies.asks b) (g.B.Bodies.gives b) (g.B.Bodies.runs b) (g.B.Bodies.waits b) (g.B.Bodies.fits b) (g.St.Store.state c.turns.store) (slots_of c.turns.levels)
     c.args.fuel root c.turns.turn.level c.turns.turn.step (c.turns.invariant.at root asked) c.in-Answer.given c.in-Answer.is c.if-turn-fuel.true
+
+pub returns-in-Err-clause-levels : goal.returns-in-Err-clause-levels
+returns-in-Err-clause-levels g c =
+    let root = c.requires.call.0 in
+    let asked = c.requires.call.1 in
+    let b = c.args.bodies.now in
+    let at = c.turns.invariant.at root asked in
+    let inner : IsInner c.args.fuel c.turns.turn.level c.turns.turn.step =
+    elim c.match-turn.branch [
+      | in-Answer+else-turn-fuel w ↦
+          is_inner c.args.fuel c.turns.turn.level c.turns.turn.step
+          (λ handle is. is_below (g.B.Bodies.asks b) (g.B.Bodies.gives b) (g.B.Bodies.runs b) (g.B.Bodies.waits b) (g.B.Bodies.fits b) (g.St.Store.state c.turns.store) (slots_of c.turns.levels)
+          c.args.fuel root c.turns.turn.level c.turns.turn.step at handle is w.if-turn-fuel.false)
+      | in_default w ↦ is_inner c.args.fuel c.turns.turn.level c.turns.turn.step (λ handle is. absurd (w.in_default.not-Answer handle is))
+    ] in
+    let turns = c.next.ensures.turns c.args.fuel root inner at in
+    turns.keeps
 
 pub returns-in-Err-clause-gains : goal.returns-in-Err-clause-gains
 returns-in-Err-clause-gains g c root asked =

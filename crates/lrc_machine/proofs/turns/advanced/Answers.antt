@@ -95,7 +95,7 @@ returns-in-Asked-clause-falls g c =
     let marks = c.args.levels.now.marks.items in
     let moves = of_asked _ _ _ _ c.in-Ok.moved c.in-Asked.waiting c.in-Asked.inner c.in-Asked.is (c.in-Ok.ensures.moves turn.turn.0 running) in
     let less = turn.turn.1 in
-    let has = turn.marks in
+    let has = turn.levels.marks in
     let room : c.args.level < length marks = omega arith in
     asked left most marks (slice_set marks c.args.level c.in-Asked.waiting) c.args.level c.args.mark c.in-Asked.waiting (set_here marks c.args.level c.in-Asked.waiting room)
     (drop_set marks c.args.level (suc c.args.level) c.in-Asked.waiting (omega arith)) moves.3 moves.4

@@ -1,0 +1,13 @@
+pub mod ProperLemmas
+pub mod PointLemmas
+pub mod ActionLemmas
+pub mod HitLemmas
+pub mod WaitLemmas
+pub mod MetCellLemmas
+pub mod RoomLemmas
+pub mod LoopLemmas
+pub mod OpenLemmas
+pub mod ResumeLemmas
+pub mod AdvanceLemmas
+pub mod EndLemmas
+pub mod BodyLemmas

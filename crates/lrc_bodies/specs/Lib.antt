@@ -1,0 +1,3 @@
+pub mod Points
+pub mod Bodies
+pub mod Advancing
