@@ -5,6 +5,7 @@ pub mod HitLemmas
 pub mod WaitLemmas
 pub mod MetCellLemmas
 pub mod RoomLemmas
+pub mod BodyLemmas
 pub mod LoopLemmas
 pub mod OpenLemmas
 pub mod ResumeLemmas
