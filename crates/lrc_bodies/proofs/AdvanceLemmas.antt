@@ -1,5 +1,4 @@
--- The next step of a body: the action behind the operation that stands there, and what its evaluation, its visit or its end
--- answers.
+-- The next step of a body: the action behind the operation that stands there, and what its evaluation or its visit answers.
 use Rattle.std.proofs.Common.{◌≡◌, ℕ, suc, ◌+◌, ◌-◌, ◌<◌, ◌≤◌, Bool, true, false, IsTrue, inl, inr, List, [], ◌∷◌, ◌++◌, length, map, Option, Some, None, slice_get, get_or, refl, sym, ap, ◌∙◌, subst, arith}
 use Rattle.std.specs.Prelude.{Result, Ok, Err, IsErr}
 use Rattle.std.proofs.lemmas.Option.{none-some, same_Some, slice_get-map, slice_get_within, slice_get_past, get_or_from_slice_get}
@@ -36,18 +35,18 @@ use Rattle.lrc_functions.specs.Functions.{callee_of, operation_of, function_of, 
 use Rattle.lrc_frames.specs.Frames.{Run, after}
 use Rattle.lrc_frames.specs.Steps.{Evaluates, Calls, evaluation_cells, call_cells}
 use Rattle.lrc_frames.specs.Writing.{CanEvaluate, CanCall}
-use Rattle.lrc_frames.proofs.FrameLemmas.{runs_last}
 use Rattle.lrc_machine.specs.declared.bodies.Moved.{Moved}
 use Rattle.lrc_machine.specs.declared.bodies.Moved.TheVariants as m
 use Rattle.lrc_order_meaning.proofs.MemberLemmas.{member_slice}
 use Rattle.lrc_laws.proofs.FuelLemmas.{mapped}
 use Rattle.lrc_bodies.specs.declared.mark.Mark.{Mark}
 use Rattle.lrc_bodies.specs.Points.{evaluation_met, segment_of, Point}
-use Rattle.lrc_bodies.specs.Bodies.{no_function, function_at, Asks, Runs}
+use Rattle.lrc_bodies.specs.Bodies.{no_function, function_at, Asks, Runs, WaitsAt}
 use Rattle.lrc_bodies.specs.Advancing.{Faces, Advances}
 use Rattle.lrc_bodies.proofs.ProperLemmas.{called, IsCalled}
 use Rattle.lrc_bodies.proofs.PointLemmas.{needed}
 use Rattle.lrc_bodies.proofs.ActionLemmas.{evaluation_cells_are, defined, no_value, evaluates, visit_there, no_call}
+use Rattle.lrc_bodies.proofs.LoopLemmas.{waits_on}
 use Rattle.lrc_bodies.proofs.MetCellLemmas.{cells_of_both, evaluation_cells_within, call_cells_within}
 
 -- ---- operations and actions
@@ -121,10 +120,6 @@ module _ (g : Grammar) (parts : List Partition) (productions : List (List Functi
       -- behind it less is left, and before it one
       pub some_left : mark.at < length (function_at productions mark).operations
       some_left = slice_get_within (function_at productions mark).operations mark.at operation faces.next
-
-      -- what the call meets
-      abbrev reached : List CellTree
-      reached = cells_of (reach g parts (suc fuel) c)
 
     -- ---- an evaluation
 
@@ -268,27 +263,26 @@ module _ (g : Grammar) (parts : List Partition) (productions : List (List Functi
         pub call_made : (found : Option Handle) (handle : Handle) → found ≡ Some handle → CallAnswers (Ok found) → Advances g parts productions s t frame fuel c mark (Ok (m.Asked mark handle))
         call_made None handle is h = absurd (none-some handle is)
         call_made (Some made_handle) handle is h =
-            let lasts = h.adds.gains.lasts in
             let less = some_left (op.Visit callee) faces in
-            let asks = asks_last g parts s t c mark.call.0 lasts.known faces.runs.asks in
             let same : made_handle ≡ handle = same_Some made_handle handle is in
-            let inner = call_of g parts run_at.production run_at.kids run_at.held symbol visit in record {
+            let inner = call_of g parts run_at.production run_at.kids run_at.held symbol visit in
+            let waits : WaitsAt g parts s frame fuel c mark inner = record {
+              asks = faces.runs.asks;
+              run = run_at;
+              met = faces.runs.met;
+              symbol = symbol;
+              visit_there = visit;
+              stands = record { point = point_at; action = next_visit; callable = h.ok.0; call = refl };
+              visit = faces.runs.visit;
+              runs = faces.runs.runs;
+              seen = faces.runs.seen;
+              low = faces.runs.low;
+            } in record {
               gains = call_gained (Ok (Some made_handle)) h;
               moves = (
                 inner,
-                record {
-                  asks = asks;
-                  run = run_at;
-                  met = faces.runs.met;
-                  symbol = symbol;
-                  visit_there = visit;
-                  stands = record { point = point_at; action = next_visit; callable = h.ok.0; call = refl };
-                  visit = faces.runs.visit;
-                  runs = runs_last g parts s t frame mark.body run_at lasts.known faces.runs.runs;
-                  seen = told-lasts s.seen t.seen (cells_of faces.runs.met) lasts.seen faces.runs.seen;
-                  low = faces.runs.low;
-                },
-                record { sound = asks.sound; spelled = h.ok.2; stands = subst (λ (x : Handle). Stands t x.0 (call_form inner)) same h.ok.1.stands },
+                waits_on g parts s frame fuel c mark inner waits t h.adds.gains.lasts,
+                record { sound = faces.runs.asks.sound; spelled = h.ok.2; stands = subst (λ (x : Handle). Stands t x.0 (call_form inner)) same h.ok.1.stands },
                 omega (arith, less),
                 omega arith,
               );

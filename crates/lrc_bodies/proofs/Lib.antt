@@ -11,4 +11,3 @@ pub mod OpenLemmas
 pub mod ResumeLemmas
 pub mod AdvanceLemmas
 pub mod EndLemmas
-pub mod BodyLemmas
