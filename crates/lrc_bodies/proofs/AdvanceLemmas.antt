@@ -1,12 +1,9 @@
--- The next step of a body: the action behind the operation that stands there, and what its evaluation, its visit or its end
--- answers.
-use Rattle.std.proofs.Common.{◌≡◌, ℕ, suc, ◌+◌, ◌-◌, ◌<◌, ◌≤◌, Bool, true, false, IsTrue, inl, inr, List, [], ◌∷◌, ◌++◌, length, map, Option, Some, None, slice_get, get_or, refl, sym, ap, ◌∙◌, subst, arith}
+-- The next step of a body: the action behind the operation that stands there, and what its evaluation or its visit answers.
+use Rattle.std.proofs.Common.{◌≡◌, ℕ, suc, ◌+◌, ◌<◌, ◌≤◌, Bool, true, false, IsTrue, inl, inr, List, [], ◌∷◌, ◌++◌, length, map, Option, Some, None, slice_get, refl, sym, ap, ◌∙◌, subst, arith}
 use Rattle.std.specs.Prelude.{Result, Ok, Err, IsErr}
-use Rattle.std.proofs.lemmas.Option.{none-some, same_Some, slice_get-map, slice_get_within, slice_get_past, get_or_from_slice_get}
+use Rattle.std.proofs.lemmas.Option.{none-some, same_Some, slice_get-map, slice_get_within, slice_get_past}
 use Rattle.std.proofs.lemmas.Bool.{cases_lt, false≢true}
 use Rattle.std.specs.Option.{option_map_or}
-use Rattle.std.proofs.lemmas.List.{get_or-map}
-use Rattle.std.proofs.lemmas.List.FromFn.{get_or-map-range_with_len}
 use Rattle.lrc_base.specs.declared.grammar.Production.{Production}
 use Rattle.lrc_meaning.specs.Grammar.{Grammar, Occurrence, occurrences_of}
 use Rattle.lrc_order_meaning.specs.declared.Partition.{Partition}
@@ -19,15 +16,15 @@ use Rattle.lrc_visit_meaning.specs.Values.{value, Call}
 use Rattle.lrc_visit_meaning.specs.Visits.{call_of}
 use Rattle.lrc_visit_meaning.specs.Demand.{reach}
 use Rattle.lrc_store.specs.Cells.{CellTree, IsWithin}
-use Rattle.lrc_store.specs.Standing.{Standing, Stands}
-use Rattle.lrc_store.specs.Words.{Keeps, Gains}
+use Rattle.lrc_store.specs.Standing.{Standing, Stands, Told}
+use Rattle.lrc_store.specs.Words.{Gains}
 use Rattle.lrc_store.specs.declared.cells.Handle.{Handle}
 use Rattle.lrc_store.specs.declared.stores.Full.{Full}
 use Rattle.lrc_store.proofs.Lasting.{gains-more, lacks-more}
 use Rattle.lrc_call_meaning.specs.Forms.{call_form}
 use Rattle.lrc_call_meaning.specs.Reached.{cells_of}
 use Rattle.lrc_eval.specs.declared.values.Val.{Val}
-use Rattle.lrc_eval.proofs.CellLemmas.{told-lasts, told-each}
+use Rattle.lrc_eval.proofs.CellLemmas.{told-lasts}
 use Rattle.lrc_functions.specs.declared.function.Callee.{Callee}
 use Rattle.lrc_functions.specs.declared.function.Function.{Function}
 use Rattle.lrc_functions.specs.declared.function.Operation.{Operation}
@@ -36,19 +33,21 @@ use Rattle.lrc_functions.specs.Functions.{callee_of, operation_of, function_of, 
 use Rattle.lrc_frames.specs.Frames.{Run, after}
 use Rattle.lrc_frames.specs.Steps.{Evaluates, Calls, evaluation_cells, call_cells}
 use Rattle.lrc_frames.specs.Writing.{CanEvaluate, CanCall}
-use Rattle.lrc_frames.proofs.FrameLemmas.{runs_last}
 use Rattle.lrc_machine.specs.declared.bodies.Moved.{Moved}
 use Rattle.lrc_machine.specs.declared.bodies.Moved.TheVariants as m
 use Rattle.lrc_order_meaning.proofs.MemberLemmas.{member_slice}
 use Rattle.lrc_laws.proofs.FuelLemmas.{mapped}
 use Rattle.lrc_bodies.specs.declared.mark.Mark.{Mark}
 use Rattle.lrc_bodies.specs.Points.{evaluation_met, segment_of, Point}
-use Rattle.lrc_bodies.specs.Bodies.{no_function, function_at, Asks, Runs}
+use Rattle.lrc_bodies.specs.Bodies.{function_at, Runs, WaitsAt}
 use Rattle.lrc_bodies.specs.Advancing.{Faces, Advances}
 use Rattle.lrc_bodies.proofs.ProperLemmas.{called, IsCalled}
 use Rattle.lrc_bodies.proofs.PointLemmas.{needed}
 use Rattle.lrc_bodies.proofs.ActionLemmas.{evaluation_cells_are, defined, no_value, evaluates, visit_there, no_call}
-use Rattle.lrc_bodies.proofs.MetCellLemmas.{cells_of_both, evaluation_cells_within, call_cells_within}
+use Rattle.lrc_bodies.proofs.LoopLemmas.{waits_on}
+use Rattle.lrc_bodies.proofs.OpenLemmas.{asks_on}
+use Rattle.lrc_bodies.proofs.ResumeLemmas.{told_both, function_there}
+use Rattle.lrc_bodies.proofs.MetCellLemmas.{evaluation_cells_within, call_cells_within}
 
 -- ---- operations and actions
 
@@ -58,11 +57,6 @@ defined_below xs o h = elim (cases_lt o (length xs)) [
   | inl less ↦ less
   | inr above ↦ absurd (false≢true (sym (ap (λ x. option_map_or (λ (x : Occurrence). x.is_defined) x false) (slice_get_past xs o above)) ∙ h))
 ]
-
-module _ (g : Grammar) (parts : List Partition) where
-  -- the handle of a call stands for it later too
-  pub asks_last : (s t : Standing) (c : Call) (handle : ℕ) → Keeps s t → Asks g parts s c handle → Asks g parts t c handle
-  asks_last s t c handle keeps asks = record { sound = asks.sound; spelled = asks.spelled; stands = keeps handle (call_form c) asks.stands }
 
 module _ (g : Grammar) (parts : List Partition) (p : Production) where
   eval_of : (x : Action) (o : ℕ) (e : Option ℕ) → operation_of g.sorts parts p x ≡ op.Eval o e → x ≡ a.Eval o
@@ -74,19 +68,6 @@ module _ (g : Grammar) (parts : List Partition) (p : Production) where
   visit_of (a.Visit s v) callee same = (s, v, refl, cc)
 
 module _ (g : Grammar) (parts : List Partition) (productions : List (List Function)) (made : productions ≡ map (functions_of g.sorts parts) g.prods) where
-  -- the function at a mark is that of its production's visit
-  pub function_is : (mark : Mark) (p : Production) → slice_get g.prods mark.body.production ≡ Some p → 1 ≤ mark.body.visit → mark.body.visit ≤ visits_of parts p.left
-      → function_at productions mark ≡ function_of g.sorts parts p mark.body.visit
-  function_is mark p there first last =
-      let n = mark.body.production in
-      let v = mark.body.visit in
-      let row : get_or productions n [] ≡ functions_of g.sorts parts p =
-      ap (λ (all : List (List Function)). get_or all n []) made
-      ∙ get_or-map (functions_of g.sorts parts) g.prods n p [] (slice_get_within g.prods n p there)
-      ∙ ap (functions_of g.sorts parts) (get_or_from_slice_get g.prods n p p there) in
-      ap (λ (fs : List Function). get_or fs (v - 1) no_function) row
-      ∙ get_or-map-range_with_len (function_of g.sorts parts p) 1 (visits_of parts p.left) (v - 1) v no_function (omega (arith, first, last)) (omega (arith, first))
-
   module _ (s : Standing) (frame : List Val) (fuel : ℕ) (c : Call) (mark : Mark) where
     -- the visit at the mark is one of the left side's
     pub is_there : (runs : Runs g parts s frame fuel c mark) → IsCalled g parts runs.run.production c
@@ -101,7 +82,7 @@ module _ (g : Grammar) (parts : List Partition) (productions : List (List Functi
         let visit = runs.visit in
         let first = is.first in
         let last = is.last in
-        function_is mark runs.run.production runs.point.there (omega (arith, visit, first)) (subst (λ v. v ≤ visits_of parts runs.run.production.left) (sym visit) last)
+        function_there g parts productions mark runs.run made runs.point.there (omega (arith, visit, first)) (subst (λ v. v ≤ visits_of parts runs.run.production.left) (sym visit) last)
 
     module _ (operation : Operation) (faces : Faces g parts productions s frame fuel c mark operation) where
       abbrev run : Run
@@ -121,10 +102,6 @@ module _ (g : Grammar) (parts : List Partition) (productions : List (List Functi
       -- behind it less is left, and before it one
       pub some_left : mark.at < length (function_at productions mark).operations
       some_left = slice_get_within (function_at productions mark).operations mark.at operation faces.next
-
-      -- what the call meets
-      abbrev reached : List CellTree
-      reached = cells_of (reach g parts (suc fuel) c)
 
     -- ---- an evaluation
 
@@ -188,17 +165,14 @@ module _ (g : Grammar) (parts : List Partition) (productions : List (List Functi
               gains = gained (Ok true) h;
               moves = (
                 record {
-                  asks = asks_last g parts s t c mark.call.0 lasts.known faces.runs.asks;
+                  asks = asks_on g parts s t c mark.call.0 lasts.known faces.runs.asks;
                   run = after g parts run_here (a.Eval o) (value h.ok.0 ∷ []);
                   met = met ++ evaluation_met g parts run_here o;
                   point = evaluates g parts fuel c mark.body.production run_here mark.at mark.height met point_here o next_eval h.ok.0 h.ok.1;
                   visit = faces.runs.visit;
                   runs = h.ok.2;
-                  seen = told-each t.seen (cells_of met) (evaluation_cells g parts run_here o) (cells_of (met ++ evaluation_met g parts run_here o))
-                      (λ seen old new.
-                      cells_of_both met (evaluation_met g parts run_here o) seen old
-                      (subst (λ (cells : List CellTree). IsWithin cells seen) (sym (evaluation_cells_are g parts run_here o)) new))
-                      (told-lasts s.seen t.seen (cells_of met) lasts.seen faces.runs.seen) h.ok.3;
+                  seen = told_both t.seen met (evaluation_met g parts run_here o) (told-lasts s.seen t.seen (cells_of met) lasts.seen faces.runs.seen)
+                      (subst (λ (cells : List CellTree). Told t.seen (IsWithin cells)) (sym (evaluation_cells_are g parts run_here o)) h.ok.3);
                   low = faces.runs.low;
                 },
                 (let less = some_left (op.Eval o equation) faces in omega (arith, less)),
@@ -268,27 +242,26 @@ module _ (g : Grammar) (parts : List Partition) (productions : List (List Functi
         pub call_made : (found : Option Handle) (handle : Handle) → found ≡ Some handle → CallAnswers (Ok found) → Advances g parts productions s t frame fuel c mark (Ok (m.Asked mark handle))
         call_made None handle is h = absurd (none-some handle is)
         call_made (Some made_handle) handle is h =
-            let lasts = h.adds.gains.lasts in
             let less = some_left (op.Visit callee) faces in
-            let asks = asks_last g parts s t c mark.call.0 lasts.known faces.runs.asks in
             let same : made_handle ≡ handle = same_Some made_handle handle is in
-            let inner = call_of g parts run_at.production run_at.kids run_at.held symbol visit in record {
+            let inner = call_of g parts run_at.production run_at.kids run_at.held symbol visit in
+            let waits : WaitsAt g parts s frame fuel c mark inner = record {
+              asks = faces.runs.asks;
+              run = run_at;
+              met = faces.runs.met;
+              symbol = symbol;
+              visit_there = visit;
+              stands = record { point = point_at; action = next_visit; callable = h.ok.0; call = refl };
+              visit = faces.runs.visit;
+              runs = faces.runs.runs;
+              seen = faces.runs.seen;
+              low = faces.runs.low;
+            } in record {
               gains = call_gained (Ok (Some made_handle)) h;
               moves = (
                 inner,
-                record {
-                  asks = asks;
-                  run = run_at;
-                  met = faces.runs.met;
-                  symbol = symbol;
-                  visit_there = visit;
-                  stands = record { point = point_at; action = next_visit; callable = h.ok.0; call = refl };
-                  visit = faces.runs.visit;
-                  runs = runs_last g parts s t frame mark.body run_at lasts.known faces.runs.runs;
-                  seen = told-lasts s.seen t.seen (cells_of faces.runs.met) lasts.seen faces.runs.seen;
-                  low = faces.runs.low;
-                },
-                record { sound = asks.sound; spelled = h.ok.2; stands = subst (λ (x : Handle). Stands t x.0 (call_form inner)) same h.ok.1.stands },
+                waits_on g parts s frame fuel c mark inner waits t h.adds.gains.lasts,
+                record { sound = faces.runs.asks.sound; spelled = h.ok.2; stands = subst (λ (x : Handle). Stands t x.0 (call_form inner)) same h.ok.1.stands },
                 omega (arith, less),
                 omega arith,
               );

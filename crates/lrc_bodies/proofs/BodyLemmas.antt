@@ -1,5 +1,5 @@
 -- What stands at a body's mark: its function is there, and the next operation of it, or its end.
-use Rattle.std.proofs.Common.{◌≡◌, ℕ, ◌-◌, ◌<◌, ◌≤◌, ◌^◌, inl, inr, List, length, map, Option, Some, slice_get, get_or, refl, sym, ap, ◌∙◌, subst, arith}
+use Rattle.std.proofs.Common.{◌≡◌, ℕ, ◌-◌, ◌<◌, ◌≤◌, ◌^◌, inl, inr, List, length, map, Some, slice_get, get_or, refl, sym, ap, ◌∙◌, subst, arith}
 use Rattle.std.specs.Prelude.{IfSome}
 use Rattle.std.proofs.lemmas.Option.{slice_get_read}
 use Rattle.std.proofs.lemmas.Bool.{cases_lt}
@@ -11,6 +11,7 @@ use Rattle.lrc_order_meaning.specs.Ordered.{Partitions, HasOrder}
 use Rattle.lrc_grammar.specs.Grammar.{grammar_of}
 use Rattle.lrc_plan_meaning.specs.Items.{visits_of}
 use Rattle.lrc_plan.specs.Planned.{IsVisit}
+use Rattle.lrc_plan.proofs.ReadLemmas.{if_some, in_some}
 use Rattle.lrc_visit_meaning.specs.Values.{Call}
 use Rattle.lrc_store.specs.Standing.{Standing}
 use Rattle.lrc_cell_laws.proofs.TagLemmas.{nine_visits}
@@ -43,13 +44,13 @@ module _ (g : Grammar) (found : Partitions) (productions : List (List Function))
   pub visit_is_there : IfSome (slice_get g.prods mark.body.production) (λ p. IsVisit found p mark.body.visit)
   visit_is_there =
       let is = is_there g found.sorts productions made s frame level c mark runs in
-      subst (λ (o : Option Production). IfSome o (λ p. IsVisit found p mark.body.visit)) (sym runs.point.there)
+      if_some (λ p. IsVisit found p mark.body.visit) (slice_get g.prods mark.body.production) production runs.point.there
       (subst (IsVisit found production) (sym runs.visit) (record { first = is.first; last = is.last }))
 
   module _ (function : Function) (read : IfSome (slice_get g.prods mark.body.production) (λ p. function ≡ function_of g.sorts found.sorts p mark.body.visit)) (operations : List Operation)
       (same : operations ≡ function.operations) where
     function_read : function ≡ function_of g.sorts found.sorts production mark.body.visit
-    function_read = subst (λ (o : Option Production). IfSome o (λ p. function ≡ function_of g.sorts found.sorts p mark.body.visit)) runs.point.there read
+    function_read = in_some (λ p. function ≡ function_of g.sorts found.sorts p mark.body.visit) (slice_get g.prods mark.body.production) production runs.point.there read
 
     operations_are : operations ≡ (function_at productions mark).operations
     operations_are = same ∙ ap (λ (f : Function). f.operations) (function_read ∙ sym (own_function g found.sorts productions made s frame level c mark runs))

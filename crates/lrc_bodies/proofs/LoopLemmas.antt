@@ -1,5 +1,5 @@
 -- What the loop of visits asks of bodies that wait: what follows for their call, and that they wait on while the store grows.
-use Rattle.std.proofs.Common.{◌≡◌, ℕ, suc, List, Option, None, Some, Contains}
+use Rattle.std.proofs.Common.{◌≡◌, ℕ, suc, List, Option, None, Some}
 use Rattle.lrc_meaning.specs.Grammar.{Grammar}
 use Rattle.lrc_order_meaning.specs.declared.Partition.{Partition}
 use Rattle.lrc_visit_meaning.specs.Values.{Call}
@@ -14,7 +14,7 @@ use Rattle.lrc_cell_laws.proofs.DemandCellLemmas.{cells_within}
 use Rattle.lrc_eval.specs.declared.values.Val.{Val}
 use Rattle.lrc_frames.proofs.FrameLemmas.{runs_last}
 use Rattle.lrc_bodies.specs.declared.mark.Mark.{Mark}
-use Rattle.lrc_bodies.specs.Bodies.{Asks, WaitsAt}
+use Rattle.lrc_bodies.specs.Bodies.{WaitsAt}
 use Rattle.lrc_bodies.proofs.ActionLemmas.{no_result, inner_within}
 
 -- what was in a store for good is so in one that knows more

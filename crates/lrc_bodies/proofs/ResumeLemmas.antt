@@ -39,7 +39,7 @@ use Rattle.lrc_bodies.proofs.MetCellLemmas.{cells_of_both}
 use Rattle.lrc_bodies.proofs.OpenLemmas.{asks_on}
 
 -- cells that were met are told of together
-told_both : (seen : Option (List CellTree)) (ms ns : List Met) → Told seen (IsWithin (cells_of ms)) → Told seen (IsWithin (cells_of ns)) → Told seen (IsWithin (cells_of (ms ++ ns)))
+pub told_both : (seen : Option (List CellTree)) (ms ns : List Met) → Told seen (IsWithin (cells_of ms)) → Told seen (IsWithin (cells_of ns)) → Told seen (IsWithin (cells_of (ms ++ ns)))
 told_both None ms ns h k = tt
 told_both (Some cells) ms ns h k = cells_of_both ms ns cells h k
 

@@ -3,7 +3,6 @@ use Rattle.std.specs.Prelude.{◌≡◌, ℕ, suc, ◌+◌, ◌-◌, ◌<◌, �
 use Rattle.lrc_meaning.specs.Grammar as meaning
 use Rattle.lrc_order_meaning.specs.declared.Partition.{Partition}
 use Rattle.lrc_grammar.specs.Grammar.{grammar_of}
-use Rattle.lrc_plan.specs.declared.sequenced.Plan.{Plan}
 use Rattle.lrc_visit_meaning.specs.Values.{Call}
 use Rattle.lrc_visit_meaning.specs.Visits.{plain_visit}
 use Rattle.lrc_visit_meaning.specs.Demand.{reach}

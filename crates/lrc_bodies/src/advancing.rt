@@ -7,8 +7,7 @@ ghost use Rattle.lrc_visit_meaning.specs.Demand.{reach};
 ghost use Rattle.lrc_store.specs.Words.{Gains, LacksOne};
 ghost use Rattle.lrc_call_meaning.specs.Reached.{cells_of};
 ghost use Rattle.lrc_functions.specs.declared.function.Operation.TheVariants as operation;
-ghost use Rattle.lrc_bodies.specs.Bodies.{Runs};
-ghost use Rattle.lrc_bodies.specs.Bodies.{IsMeaningOf};
+ghost use Rattle.lrc_bodies.specs.Bodies.{IsMeaningOf, Runs};
 ghost use Rattle.lrc_bodies.specs.Advancing.{IsAtEnd, EndsWith, Faces, Advances, MovesOn};
 
 use crate::mark::Mark;

@@ -1,4 +1,4 @@
-use Rattle.std.proofs.Common.{◌≡◌, ◌≤◌, ℕ, ◌+◌, length, Contains, List, [], ◌∷◌, sym, ap, ◌∙◌, subst, arith}
+use Rattle.std.proofs.Common.{length, Contains, [], ◌∷◌, sym, ap, subst, arith}
 use Rattle.std.proofs.lemmas.List.{length-append}
 use Rattle.lrc_bodies.specs.Bodies.{HasRoom}
 use Rattle.lrc_bodies.proofs.RoomLemmas.{no_room, room_more}
