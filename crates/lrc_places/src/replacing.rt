@@ -32,7 +32,7 @@ fn told<St: Store>(store: &St, handle: Handle) -> Handle
 pub fn replaced<St: Store>(
     store: &mut St,
     tree: Handle,
-    steps: &[u32],
+    steps: &[u8],
     part: Handle,
 ) -> Result<Handle, Full>
     requires tree { (t : Tree) × Stands (St.state store.old) tree.0 (tree_cell t) × IsTrue (are_productions_below 65280 t) }
@@ -46,7 +46,7 @@ pub fn replaced<St: Store>(
     let Shape::Node(production, kids) = shape_of(store, tree) else {
         return Ok(told(store, tree));
     };
-    let kids = replaced_among(store, kids, *step, rest, part)?;
+    let kids = replaced_among(store, kids, u32::from(*step), rest, part)?;
     put_node(store, production, kids)
 }
 
@@ -57,7 +57,7 @@ fn replaced_among<St: Store>(
     store: &mut St,
     kids: Handle,
     step: u32,
-    steps: &[u32],
+    steps: &[u8],
     part: Handle,
 ) -> Result<Handle, Full>
     requires kids { (ts : Trees) × Stands (St.state store.old) kids.0 (kids_cell ts) × IsTrue (are_kids_below 65280 ts) }
