@@ -1,5 +1,5 @@
-//! Places of trees over the handles of any store: the part at a place, the kind of a tree, and a tree
-//! with another part at a place.
+//! Places of trees over the handles of any store: the part at a place, the kind of a tree, a tree with
+//! another part at a place, and a term that is put at a place of its kind.
 //!
 //! A tree is a handle of its cell, and a place a list of steps, each of which names a child, from 0.
 #![tactic(auto)]
@@ -7,6 +7,7 @@
 mod kinds;
 mod laws;
 mod places;
+mod putting;
 mod replacing;
 mod shapes;
 
@@ -16,4 +17,5 @@ pub use laws::{
     replaced_trees_are_spelled, replaced_trees_fit, what_is_put_is_there,
 };
 pub use places::part_at;
+pub use putting::{Put, ReplaceFault, replace};
 pub use replacing::replaced;

@@ -10,7 +10,7 @@ use lrc_store::{Handle, Store};
 
 /// The child of this number, from 0, of the list that the handle stands for; None where there is no
 /// such child.
-fn kid_at<St: Store>(store: &mut St, kids: Handle, number: u32) -> Option<Handle>
+fn kid_at<St: Store>(store: &mut St, kids: Handle, number: u8) -> Option<Handle>
     requires { (ts : Trees) × Stands (St.state store.old) kids.0 (kids_cell ts) }
     ensures kid { (ts : Trees) → Stands (St.state store.old) kids.0 (kids_cell ts) → FindsPart (St.state store.new) (slice_get (in_order ts) number) result }
     ensures reads { Reads (St.state store.old) (St.state store.new) }
@@ -26,7 +26,7 @@ fn kid_at<St: Store>(store: &mut St, kids: Handle, number: u32) -> Option<Handle
 /// The part of the tree at the place; None exactly where there is no such place, as below a leaf.
 ///
 /// The time is linear in the path and the numbers of its steps, of which none goes past the last child.
-pub fn part_at<St: Store>(store: &mut St, tree: Handle, steps: &[u32]) -> Option<Handle>
+pub fn part_at<St: Store>(store: &mut St, tree: Handle, steps: &[u8]) -> Option<Handle>
     requires { (t : Tree) × Stands (St.state store.old) tree.0 (tree_cell t) }
     ensures part { (t : Tree) → Stands (St.state store.old) tree.0 (tree_cell t) → FindsPart (St.state store.new) (at_place t steps.now) result }
     ensures reads { Reads (St.state store.old) (St.state store.new) }

@@ -32,7 +32,7 @@ fn told<St: Store>(store: &St, handle: Handle) -> Handle
 pub fn replaced<St: Store>(
     store: &mut St,
     tree: Handle,
-    steps: &[u32],
+    steps: &[u8],
     part: Handle,
 ) -> Result<Handle, Full>
     requires tree { (t : Tree) × Stands (St.state store.old) tree.0 (tree_cell t) × IsTrue (are_productions_below 65280 t) }
@@ -56,8 +56,8 @@ pub fn replaced<St: Store>(
 fn replaced_among<St: Store>(
     store: &mut St,
     kids: Handle,
-    step: u32,
-    steps: &[u32],
+    step: u8,
+    steps: &[u8],
     part: Handle,
 ) -> Result<Handle, Full>
     requires kids { (ts : Trees) × Stands (St.state store.old) kids.0 (kids_cell ts) × IsTrue (are_kids_below 65280 ts) }
