@@ -30,7 +30,7 @@ keeps_same (Some old) (Some new) e = λ call outcome h. subst (λ o. Told o (λ 
 keeps_same None (Some new) e = cc
 keeps_same (Some old) None e = cc
 
-gained_keeps : (before after : Pairs) (call outcome : CellTree) → GainsPair before after call outcome → (one other : CellTree) → Contains before (one, other) → Contains after (one, other)
+pub gained_keeps : (before after : Pairs) (call outcome : CellTree) → GainsPair before after call outcome → (one other : CellTree) → Contains before (one, other) → Contains after (one, other)
 gained_keeps before after call outcome (inl (h, same)) one other there = subst (λ (pairs : Pairs). Contains pairs (one, other)) (sym same) there
 gained_keeps before after call outcome (inr (h, (left, right, old, new))) one other there =
     subst (λ (pairs : Pairs). Contains pairs (one, other)) (sym new)
@@ -45,23 +45,31 @@ keeps_gained (Some old) (Some new) call outcome h = gained_keeps old new call ou
 keeps_gained None (Some new) call outcome h = absurd h
 keeps_gained (Some old) None call outcome h = absurd h
 
--- what is remembered behind it was so before, or is its call
-gained_or : (before after : Pairs) (call outcome : CellTree) → GainsPair before after call outcome → (cell : CellTree) → IsRemembered after cell → IsRemembered before cell ⊎ (cell ≡ call)
-gained_or before after call outcome (inl (h, same)) cell (other, there) = inl (other, subst (λ (pairs : Pairs). Contains pairs (cell, other)) same there)
-gained_or before after call outcome (inr (h, (left, right, old, new))) cell (other, there) =
-    elim (Contains-append_cases left ((call, outcome) ∷ right) (cell, other) (subst (λ (pairs : Pairs). Contains pairs (cell, other)) new there)) [
-      | inl k ↦ inl (other, subst (λ (pairs : Pairs). Contains pairs (cell, other)) (sym old) (Contains-append_left left right (cell, other) k))
-      | inr k ↦ elim (first_or (call, outcome) (cell, other) right k) [
-        | inl e ↦ inr (sym (ap (λ (pair : CellTree × CellTree). pair.0) e))
-        | inr l ↦ inl (other, subst (λ (pairs : Pairs). Contains pairs (cell, other)) (sym old) (Contains-append_right left right (cell, other) l))
+-- a pair that is there behind it was so before, or is this one
+pub gained_pair : (before after : Pairs) (call outcome : CellTree) → GainsPair before after call outcome → (one other : CellTree) → Contains after (one, other) → Contains before (one, other) ⊎ ((call ≡ one) × (outcome ≡ other))
+gained_pair before after call outcome (inl (h, same)) one other there = inl (subst (λ (pairs : Pairs). Contains pairs (one, other)) same there)
+gained_pair before after call outcome (inr (h, (left, right, old, new))) one other there =
+    elim (Contains-append_cases left ((call, outcome) ∷ right) (one, other) (subst (λ (pairs : Pairs). Contains pairs (one, other)) new there)) [
+      | inl k ↦ inl (subst (λ (pairs : Pairs). Contains pairs (one, other)) (sym old) (Contains-append_left left right (one, other) k))
+      | inr k ↦ elim (first_or (call, outcome) (one, other) right k) [
+        | inl e ↦ inr (ap (λ (pair : CellTree × CellTree). pair.0) e, ap (λ (pair : CellTree × CellTree). pair.1) e)
+        | inr l ↦ inl (subst (λ (pairs : Pairs). Contains pairs (one, other)) (sym old) (Contains-append_right left right (one, other) l))
       ]
     ]
 
--- and its call is
-gained_there : (before after : Pairs) (call outcome : CellTree) → GainsPair before after call outcome → IsRemembered after call
-gained_there before after call outcome (inl (h, same)) = (outcome, subst (λ (pairs : Pairs). Contains pairs (call, outcome)) (sym same) h)
+-- so what is remembered was so before, or is its call
+gained_or : (before after : Pairs) (call outcome : CellTree) → GainsPair before after call outcome → (cell : CellTree) → IsRemembered after cell → IsRemembered before cell ⊎ (cell ≡ call)
+gained_or before after call outcome h cell (other, there) =
+    elim (gained_pair before after call outcome h cell other there) [
+      | inl k ↦ inl (other, k)
+      | inr e ↦ inr (sym e.0)
+    ]
+
+-- and it is there
+pub gained_there : (before after : Pairs) (call outcome : CellTree) → GainsPair before after call outcome → Contains after (call, outcome)
+gained_there before after call outcome (inl (h, same)) = subst (λ (pairs : Pairs). Contains pairs (call, outcome)) (sym same) h
 gained_there before after call outcome (inr (h, (left, right, old, new))) =
-    (outcome, subst (λ (pairs : Pairs). Contains pairs (call, outcome)) (sym new) (Contains-append_right left ((call, outcome) ∷ right) (call, outcome) (is_first (call, outcome) (call, outcome) right refl)))
+    subst (λ (pairs : Pairs). Contains pairs (call, outcome)) (sym new) (Contains-append_right left ((call, outcome) ∷ right) (call, outcome) (is_first (call, outcome) (call, outcome) right refl))
 
 -- a call that is another one is no more remembered than before
 fresh_pairs : (before after : Option Pairs) (call outcome : CellTree) → Remembers before after call outcome → (cell : CellTree) → ¬ (cell ≡ call)
@@ -147,7 +155,7 @@ module _ (is_met : CellTree → Type 0) (fuel : ℕ) where
     met = λ cell there. elim (first_or call cell c.gained there) [ inl e ↦ subst is_met e met | inr k ↦ c.met cell k ];
     kept = λ cell known. let was = c.kept cell known in (was.0, gained_keeps after last call outcome h cell was.0 was.1);
     added = λ cell there. elim (first_or call cell c.gained there) [
-      | inl e ↦ subst (IsRemembered last) e (gained_there after last call outcome h)
+      | inl e ↦ subst (IsRemembered last) e (outcome, gained_there after last call outcome h)
       | inr k ↦ let was = c.added cell k in (was.0, gained_keeps after last call outcome h cell was.0 was.1)
     ];
     only = λ cell there. elim (gained_or after last call outcome h cell there) [
