@@ -41,3 +41,7 @@ returns-in-Err-Deep-clause-too_deep g c call asked is =
     let sorts = c.args.functions.now.plan.parts.sorts in
     subst (Stops (g.St.Store.state c.run.new.store) (cells_of (reach grammar sorts c.args.fuel call)) (plain_visit grammar sorts c.args.fuel call ≡ None)) c.in-Err-Deep.field-0-is
     (c.in-Err-Deep.ensures.stops call (can_ask c.args.functions.now (g.St.Store.state c.args.store.now) call c.args.call.0 asked))
+
+pub returns-in-Ok-clause-counted : goal.returns-in-Ok-clause-counted
+returns-in-Ok-clause-counted g c call asked whole =
+    c.in-Ok.ensures.counted call (can_ask c.args.functions.now (g.St.Store.state c.args.store.now) call c.args.call.0 asked) whole
