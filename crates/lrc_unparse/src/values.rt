@@ -18,8 +18,9 @@ use std::alloc::Global;
 /// production's name and its children's texts in brackets; `<long>` in place of a text of more than
 /// 65,536 bytes.
 ///
-/// No more than 65,537 bytes of a text are made. What is still to be printed is kept in a list, so
-/// that the stack does not grow with the value.
+/// The handle is known, and stands for a value whose names are not empty and have no byte 0. No more
+/// than 65,537 bytes of a text are made. What is still to be printed is kept in a list, so that the
+/// stack does not grow with the value.
 ///
 /// # Errors
 ///
