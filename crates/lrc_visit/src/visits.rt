@@ -8,7 +8,8 @@ ghost use Rattle.lrc_call_meaning.specs.Reached.{cells_of};
 ghost use Rattle.lrc_machine.specs.Machine.{HasLevels};
 ghost use Rattle.lrc_machine.specs.Levels.{slots_of};
 ghost use Rattle.lrc_visit.specs.declared.visits.VisitFault.TheVariants as fault;
-ghost use Rattle.lrc_bodies.specs.Bodies.{Asks, Gives, HasRoom, IsMeaningOf};
+ghost use Rattle.lrc_bodies.specs.Bodies.{Gives, HasRoom, IsMeaningOf};
+ghost use Rattle.lrc_visit.specs.Asked.{IsAsked};
 
 use lrc_bodies::{Frames, Mark, VisitMeaning, advance_body, open_body, resume_body};
 use lrc_eval::Val;
@@ -115,11 +116,11 @@ pub fn visit<St: Store<M = VisitMeaning>>(
 ) -> Result<Handle, VisitFault>
     requires meaning { IsMeaningOf functions.now (St.meaning store.old) }
     requires levels { HasLevels (λ frame. HasRoom functions.now.counts frame.items) (slots_of frames.old.levels) fuel }
-    requires call { (c : Call) × Asks (grammar_of functions.now.plan.grammar) functions.now.plan.parts.sorts (St.state store.old) c call.0 }
-    ensures gains { (c : Call) → Asks (grammar_of functions.now.plan.grammar) functions.now.plan.parts.sorts (St.state store.old) c call.0 → Gains (St.state store.old) (St.state store.new) (cells_of (reach (grammar_of functions.now.plan.grammar) functions.now.plan.parts.sorts fuel c)) }
-    ensures gives { (c : Call) → Asks (grammar_of functions.now.plan.grammar) functions.now.plan.parts.sorts (St.state store.old) c call.0 → IfOk result (λ given. Gives (grammar_of functions.now.plan.grammar) functions.now.plan.parts.sorts (St.state store.new) fuel c given.0) }
-    ensures full { (c : Call) → Asks (grammar_of functions.now.plan.grammar) functions.now.plan.parts.sorts (St.state store.old) c call.0 → result ≡ Err fault.Full → LacksOne (St.state store.new) (cells_of (reach (grammar_of functions.now.plan.grammar) functions.now.plan.parts.sorts fuel c)) }
-    ensures too_deep { (c : Call) → Asks (grammar_of functions.now.plan.grammar) functions.now.plan.parts.sorts (St.state store.old) c call.0 → result ≡ Err fault.TooDeep → plain_visit (grammar_of functions.now.plan.grammar) functions.now.plan.parts.sorts fuel c ≡ None }
+    requires call { (c : Call) × IsAsked (St.state store.old) c call.0 }
+    ensures gains { (c : Call) → IsAsked (St.state store.old) c call.0 → Gains (St.state store.old) (St.state store.new) (cells_of (reach (grammar_of functions.now.plan.grammar) functions.now.plan.parts.sorts fuel c)) }
+    ensures gives { (c : Call) → IsAsked (St.state store.old) c call.0 → IfOk result (λ given. Gives (grammar_of functions.now.plan.grammar) functions.now.plan.parts.sorts (St.state store.new) fuel c given.0) }
+    ensures full { (c : Call) → IsAsked (St.state store.old) c call.0 → result ≡ Err fault.Full → LacksOne (St.state store.new) (cells_of (reach (grammar_of functions.now.plan.grammar) functions.now.plan.parts.sorts fuel c)) }
+    ensures too_deep { (c : Call) → IsAsked (St.state store.old) c call.0 → result ≡ Err fault.TooDeep → plain_visit (grammar_of functions.now.plan.grammar) functions.now.plan.parts.sorts fuel c ≡ None }
     ensures levels { HasLevels (λ frame. HasRoom functions.now.counts frame.items) (slots_of frames.new.levels) fuel }
     ensures same_meaning { St.meaning store.new ≡ St.meaning store.old }
 {
