@@ -39,6 +39,13 @@ module _ (functions : Functions) (whole : Tree) (steps : List ℕ) (new : Tree) 
   abbrev changed : Tree
   changed = replaced whole steps new
 
+  -- what replacing answers, where the plan's productions were read
+  pub by_plan : (s t : Standing) (root : ℕ) (read : List Production) (answer : Result Handle ReplaceFault) → read ≡ prods → IsStartTree functions whole → Stands s root (tree_cell whole)
+      → ((w : Tree) (sort : Kind) → IsTrue (fits read w sort) → Stands s root (tree_cell w) → Replaces read s t w steps new kind answer) → Replaces prods s t whole steps new kind answer
+  by_plan s t root read answer same fitting stands replaces =
+      let start = k.Sort functions.plan.grammar.start in
+      subst (λ ps. Replaces ps s t whole steps new kind answer) same (replaces whole start (subst (λ ps. IsTrue (fits ps whole start)) (sym same) fitting) stands)
+
   -- a tree of the start sort with a part of the place's kind is of the start sort
   pub changed_fits : IsStartTree functions whole → IsPlace prods whole steps kind → IsTrue (fits prods new kind) → IsStartTree functions changed
   changed_fits fitting there of_kind =
