@@ -40,7 +40,7 @@ slice_map f (w ∷ ws) (suc i) v e = slice_map f ws i v e
 pub value_there : (s : Standing) (list i : ℕ) (vs : List Tree) → Stands s list (values_cell vs) → i < length vs → (item : CellTree) × HasItem (meant s list) i item
 value_there s list i vs stands less =
     let at = slice_get-get_or vs i no_tree less in
-    (tree_cell (slice_index_or vs i no_tree), map tree_cell vs, stands-meant s list (values_cell vs) stands, slice_map tree_cell vs i (slice_index_or vs i no_tree) at)
+    (tree_cell (slice_index_or vs i no_tree), (map tree_cell vs, stands-meant s list (values_cell vs) stands, slice_map tree_cell vs i (slice_index_or vs i no_tree) at))
 
 pub value_read : (s u : Standing) (list i found : ℕ) (vs : List Tree) (v : Tree) → Stands s list (values_cell vs) → slice_get vs i ≡ Some v → IsKnown u found
     → HasItem (meant s list) i (meant u found) → Stands u found (tree_cell v)

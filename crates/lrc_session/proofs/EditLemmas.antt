@@ -22,15 +22,15 @@ use Rattle.lrc_session.proofs.RootLemmas.{root_lacks}
 use Rattle.lrc_session.proofs.SessionLemmas.{still_open, asked_later}
 
 module _ (functions : Functions) (s t : Standing) (whole : Tree) (vs : List Tree) (before mid : Session) (steps : List ℕ) (new : Tree) (kind : Kind) where
-  abbrev changed : Tree
+  abbrev pub changed : Tree
   changed = replaced whole steps new
 
   refused_answers : (fault : EditFault) → ProposalAnswers functions s t before.depth whole steps new kind (Err fault) → mid.depth ≡ before.depth → IsOpen functions t mid whole vs
       → EditAnswers functions s t whole vs mid steps new kind (Err fault)
-  refused_answers edit.BadPath a depth open = (a.0, a.1, open)
-  refused_answers edit.WrongSort a depth open = (a.0, a.1, open)
-  refused_answers edit.TooDeep a depth open = absurd a
-  refused_answers edit.Full a depth open = (a.0, subst (λ n. LacksOne t (demands functions n changed)) (sym depth) a.1, open)
+  refused_answers edit.BadPath a depth has = (a.0, a.1, has)
+  refused_answers edit.WrongSort a depth has = (a.0, a.1, has)
+  refused_answers edit.TooDeep a depth has = absurd a
+  refused_answers edit.Full a depth has = (a.0, subst (λ n. LacksOne t (demands functions n changed)) (sym depth) a.1, has)
 
   -- the first half was refused
   pub refused : (fault : EditFault) (answer : Result (Unit {0}) EditFault) → IsErrAnd answer (λ e. e ≡ fault) → ProposesPut functions s t whole vs before mid steps new kind (Err fault)
@@ -55,16 +55,16 @@ module _ (functions : Functions) (s t : Standing) (whole : Tree) (vs : List Tree
         open_on = still_open functions t u whole vs mid after gains.lasts.known tree values depth (subst (HasFrames functions after.frames) (sym depth) frames) first.is_open
 
         -- it has no result
-        visit_answers : (fault : VisitFault) → (Err {A = Handle} fault ≡ Err visit.Full → LacksOne u (demands functions mid.depth changed))
-            → (Err {A = Handle} fault ≡ Err visit.TooDeep → plain_visit (grammar functions) (sorts functions) mid.depth (root_call changed) ≡ None)
+        visit_answers : (fault : VisitFault) → ((let visited : Result Handle VisitFault = Err fault in visited ≡ Err visit.Full) → LacksOne u (demands functions mid.depth changed))
+            → ((let visited : Result Handle VisitFault = Err fault in visited ≡ Err visit.TooDeep) → plain_visit (grammar functions) (sorts functions) mid.depth (root_call changed) ≡ None)
             → EditAnswers functions s u whole vs after steps new kind (Err (edit_fault fault))
         visit_answers visit.Full full deep = (first.answers.0, subst (λ n. LacksOne u (demands functions n changed)) (sym depth) (full refl), open_on)
         visit_answers visit.TooDeep full deep =
             (first.answers.0, subst (λ n. IsTooDeep functions n changed) (sym depth) (root_lacks (grammar functions) functions.plan.parts mid.depth changed functions.plan.ordered (deep refl)), open_on)
 
         pub unvisited : (fault : VisitFault) (answer : Result (Unit {0}) EditFault) → IsErrAnd answer (λ e. e ≡ edit_fault fault)
-            → (Err {A = Handle} fault ≡ Err visit.Full → LacksOne u (demands functions mid.depth changed))
-            → (Err {A = Handle} fault ≡ Err visit.TooDeep → plain_visit (grammar functions) (sorts functions) mid.depth (root_call changed) ≡ None)
+            → ((let visited : Result Handle VisitFault = Err fault in visited ≡ Err visit.Full) → LacksOne u (demands functions mid.depth changed))
+            → ((let visited : Result Handle VisitFault = Err fault in visited ≡ Err visit.TooDeep) → plain_visit (grammar functions) (sorts functions) mid.depth (root_call changed) ≡ None)
             → Edits functions s u whole vs before after steps new kind answer
         unvisited fault answer is full deep = record {
           gains = gains_both;

@@ -35,8 +35,8 @@ full_visit visit.Full e = cc
 full_visit visit.TooDeep e = absurd (cc)
 
 module _ {A B : Type 0} (answer : Result A StartFault) (fault : VisitFault) (is : IsErrAnd answer (λ e. e ≡ start_fault fault)) where
-  pub was_deep : answer ≡ Err start.TooDeep → Err {A = B} fault ≡ Err visit.TooDeep
+  pub was_deep : answer ≡ Err start.TooDeep → (let visited : Result B VisitFault = Err fault in visited ≡ Err visit.TooDeep)
   was_deep e = ap Err (deep_visit fault (same_fault answer (start_fault fault) start.TooDeep (is_fault answer (start_fault fault) is) e))
 
-  pub was_full : answer ≡ Err start.Full → Err {A = B} fault ≡ Err visit.Full
+  pub was_full : answer ≡ Err start.Full → (let visited : Result B VisitFault = Err fault in visited ≡ Err visit.Full)
   was_full e = ap Err (full_visit fault (same_fault answer (start_fault fault) start.Full (is_fault answer (start_fault fault) is) e))

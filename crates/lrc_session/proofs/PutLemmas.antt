@@ -36,7 +36,7 @@ module _ (functions : Functions) (whole : Tree) (steps : List ℕ) (new : Tree) 
   abbrev prods : List Production
   prods = functions.plan.grammar.prods
 
-  abbrev changed : Tree
+  abbrev pub changed : Tree
   changed = replaced whole steps new
 
   -- what replacing answers, where the plan's productions were read

@@ -1,6 +1,6 @@
 -- The root's call: what its visit meets has the call's cell and the tree's, and the visit gives the tree's attributes, where it
 -- has a result, and where it has none there are none.
-use Rattle.std.proofs.Common.{◌≡◌, ℕ, ◌≤◌, IsTrue, List, length, None, Some, refl, sym, ◌∙◌, arith}
+use Rattle.std.proofs.Common.{◌≡◌, ℕ, ◌+◌, ◌≤◌, IsTrue, List, length, None, Some, refl, sym, ◌∙◌, arith}
 use Rattle.std.proofs.Math.Logic.{∥∥₁_elim}
 use Rattle.std.proofs.lemmas.Option.{none-some}
 use Rattle.lrc_base.specs.declared.grammar.Kind.TheVariants as k
