@@ -20,7 +20,10 @@ use std::test::Fail;
 fn num_production(alloc: Global) -> Result<Production, Fail>
     ensures { IfOk result (λ num. IsTrue (fits (num ∷ []) num_five (k.Sort 0))) }
 {
-    let number = Kid { name: NameText::of(b"n").ok_or("no name")?, kind: Kind::Int };
+    let number = Kid {
+        name: NameText::of(b"n").ok_or("no name")?,
+        kind: Kind::Int,
+    };
     Ok(Production {
         name: NameText::of(b"Num").ok_or("no name")?,
         left: 0,
@@ -44,7 +47,11 @@ fn seven_put<S: Store>(
     requires fits { IsTrue (fits prods.now num_five (k.Sort 0)) }
 {
     let seven = Term::Int(7);
-    let put = Put { path, kind: Kind::Int, term: &seven };
+    let put = Put {
+        path,
+        kind: Kind::Int,
+        term: &seven,
+    };
     let whole = replace(store, prods, node, &put)?;
     let Some(part) = part_at(store, whole, path.steps.as_slice()) else {
         return Ok(None);
@@ -62,7 +69,9 @@ fn seven_put_along(
     requires limit { rows ≤ 2 ^ 24 }
 {
     let prods = [num_production(alloc)?];
-    let path = Path { steps: Bytes::from_slice(alloc, steps)? };
+    let path = Path {
+        steps: Bytes::from_slice(alloc, steps)?,
+    };
     let (mut store, node) = store_with_five(alloc, rows)?;
     let answer = seven_put(&mut store, &prods, node, &path);
     Ok((answer, store.published()))
