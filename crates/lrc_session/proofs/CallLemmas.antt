@@ -1,5 +1,5 @@
 -- The root's call is put into a store, and its tree is read back; and the values of a result are.
-use Rattle.std.proofs.Common.{◌≡◌, ℕ, zero, suc, List, [], ◌∷◌, map, Some, slice_get, length, ◌<◌, refl, sym, ap, ◌∙◌, subst}
+use Rattle.std.proofs.Common.{◌≡◌, ℕ, zero, suc, List, [], ◌∷◌, map, Some, slice_get, length, ◌<◌, refl, sym, ap, ◌∙◌}
 use Rattle.std.specs.Prelude.{Result, slice_index_or}
 use Rattle.lrc_meaning.specs.Tree.{Tree}
 use Rattle.lrc_visit_meaning.specs.Values.{root_call, no_tree}
@@ -8,7 +8,7 @@ use Rattle.lrc_store.specs.Standing.{Standing, Stands, IsKnown, meant}
 use Rattle.lrc_store.specs.declared.cells.Handle.{Handle}
 use Rattle.lrc_store.specs.declared.stores.Full.{Full}
 use Rattle.lrc_store.proofs.Known.{stands-meant, known-stands}
-use Rattle.lrc_code.specs.Forms.{tree_cell, list_cell, call_cell}
+use Rattle.lrc_code.specs.Forms.{tree_cell, call_cell}
 use Rattle.lrc_code.specs.Building.{Builds}
 use Rattle.lrc_code.specs.Reading.{HasItem}
 use Rattle.lrc_code.proofs.Decoding.{lists-injective}

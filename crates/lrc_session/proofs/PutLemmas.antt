@@ -1,6 +1,6 @@
 -- The first half of a put: whatever ends it, the session's tree and its attributes stay, and at most what the changed tree
 -- demands is gained.
-use Rattle.std.proofs.Common.{◌≡◌, IsTrue, ℕ, List, Result, Ok, Err, IsErrAnd, sym, ap, ◌∙◌, subst}
+use Rattle.std.proofs.Common.{◌≡◌, IsTrue, ℕ, List, Result, Ok, Err, IsErrAnd, sym, subst}
 use Rattle.lrc_base.specs.declared.grammar.Kind.{Kind}
 use Rattle.lrc_base.specs.declared.grammar.Kind.TheVariants as k
 use Rattle.lrc_base.specs.declared.grammar.Production.{Production}
@@ -27,7 +27,7 @@ use Rattle.lrc_session.specs.declared.fault.EditFault.{EditFault}
 use Rattle.lrc_session.specs.declared.fault.EditFault.TheVariants as edit
 use Rattle.lrc_session.specs.Faults.{place_fault}
 use Rattle.lrc_session.specs.Sessions.{grammar, sorts, demands, IsStartTree, HasFrames, IsOpen}
-use Rattle.lrc_session.specs.Proposals.{IsRootAsked, ProposalAnswers, ProposesPut}
+use Rattle.lrc_session.specs.Proposals.{ProposalAnswers, ProposesPut}
 use Rattle.lrc_session.proofs.FaultLemmas.{is_fault}
 use Rattle.lrc_session.proofs.RootLemmas.{root_spelled, call_demanded, tree_demanded}
 use Rattle.lrc_session.proofs.SessionLemmas.{still_open}

@@ -1,20 +1,17 @@
 -- What an open session keeps while its store goes on, and how a session is opened with what its root's visit gives.
-use Rattle.std.proofs.Common.{◌≡◌, ℕ, ◌∙◌, ◌-◌, List, sym, ap, subst, refl}
+use Rattle.std.proofs.Common.{◌≡◌, ℕ, List, sym, subst, refl}
 use Rattle.lrc_meaning.specs.Tree.{Tree}
 use Rattle.lrc_meaning.specs.Attribution.{Attributes}
-use Rattle.lrc_visit_meaning.specs.Values.{Call, root_call}
+use Rattle.lrc_visit_meaning.specs.Values.{root_call}
 use Rattle.lrc_store.specs.Standing.{Standing, Stands}
-use Rattle.lrc_store.specs.Words.{Keeps, Lasts, Reads, Gains, Adds}
-use Rattle.lrc_store.proofs.Lasting.{stays-gains, gains-then}
+use Rattle.lrc_store.specs.Words.{Keeps, Lasts}
 use Rattle.lrc_code.specs.Forms.{tree_cell}
 use Rattle.lrc_eval.proofs.CellLemmas.{told-lasts}
 use Rattle.lrc_call_meaning.specs.Forms.{values_cell, call_form}
 use Rattle.lrc_functions.specs.declared.functions.Functions.{Functions}
-use Rattle.lrc_bodies.specs.Bodies.{Gives}
-use Rattle.lrc_visit.specs.Asked.{IsAsked}
 use Rattle.lrc_session.specs.declared.session.Session.{Session}
 use Rattle.lrc_session.specs.declared.proposal.Proposal.{Proposal}
-use Rattle.lrc_session.specs.Sessions.{grammar, sorts, demands, IsStartTree, HasFrames, IsOpen, Opens}
+use Rattle.lrc_session.specs.Sessions.{grammar, demands, HasFrames, IsOpen, Opens}
 use Rattle.lrc_session.specs.Proposals.{IsRootAsked, IsRootGiven, IsProposal}
 use Rattle.lrc_session.proofs.RootLemmas.{root_gives}
 

@@ -2,7 +2,7 @@
 --
 -- The root's attributes are those of the tree's attribution within the session's depth. The rules of edits are this project's
 -- own.
-use Rattle.std.specs.Prelude.{ℕ, ◌≡◌, IsTrue, List, None, Some, Result, Ok, Err}
+use Rattle.std.specs.Prelude.{ℕ, ◌≡◌, IsTrue, List, None, Result, Ok, Err}
 use Rattle.std.specs.List.{AllByRecursion}
 use Rattle.lrc_base.specs.declared.grammar.Kind.{Kind}
 use Rattle.lrc_base.specs.declared.grammar.Kind.TheVariants as k

@@ -1,4 +1,4 @@
-ghost use Rattle.std.specs.Prelude.{◌≡◌, ◌≢◌, ◌-◌, ◌<◌, ℕ, List, Some, Err, IfOk, OnErr, IsErrOf, length, slice_get, IsTrue};
+ghost use Rattle.std.specs.Prelude.{◌≡◌, ◌≢◌, ◌-◌, ◌<◌, List, Some, Err, IfOk, OnErr, length, slice_get, IsTrue};
 ghost use Rattle.lrc_meaning.specs.Tree.{Tree, tree, fits};
 ghost use Rattle.lrc_store.specs.Standing.{Stands};
 ghost use Rattle.lrc_store.specs.Words.{Adds, Gains, LacksOne, Reads};

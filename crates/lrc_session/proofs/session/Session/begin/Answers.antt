@@ -1,4 +1,3 @@
-use Rattle.std.proofs.Common.{◌∙◌, ◌-◌}
 use Rattle.lrc_visit_meaning.specs.Values.{root_call}
 use Rattle.lrc_call_meaning.specs.Forms.{result_form}
 use Rattle.lrc_store.proofs.Lasting.{reads-then}

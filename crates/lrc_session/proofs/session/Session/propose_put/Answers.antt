@@ -1,4 +1,4 @@
-use Rattle.std.proofs.Common.{◌≡◌, ◌≤◌, Ok, Err, refl, ◌∙◌}
+use Rattle.std.proofs.Common.{Ok, Err, refl}
 use Rattle.lrc_meaning.specs.Tree.{tree}
 use Rattle.lrc_session.proofs.PutLemmas.{changed, by_plan, stopped_at_place, root_stands, stopped_at_call, proposed}
 use Rattle.lrc_session.proofs.session.Session.propose_put.Goals as goal

@@ -1,4 +1,4 @@
-use Rattle.std.proofs.Common.{◌≡◌, ◌-◌, refl, sym, ◌∙◌, subst}
+use Rattle.std.proofs.Common.{refl, sym, subst}
 use Rattle.lrc_meaning.specs.Tree.{tree}
 use Rattle.lrc_visit_meaning.specs.Values.{root_call}
 use Rattle.lrc_store.proofs.Lasting.{gains-then, stays-gains}
