@@ -5,7 +5,7 @@ use Rattle.std.proofs.lemmas.Bool.{and_parts}
 use Rattle.lrc_meaning.specs.Tree.{Tree, Trees, node, more, replaced, replaced_among}
 use Rattle.lrc_store.specs.Cells.{CellTree, nil, parts, IsWithin}
 use Rattle.lrc_store.specs.Standing.{Standing, Stands, meant}
-use Rattle.lrc_store.specs.Words.{Reads}
+use Rattle.lrc_store.specs.Words.{Adds, Reads}
 use Rattle.lrc_store.specs.declared.cells.Handle.{Handle}
 use Rattle.lrc_store.specs.declared.stores.Full.{Full}
 use Rattle.lrc_store.proofs.Known.{stands-meant}
@@ -31,9 +31,12 @@ step-taken (s ∷ steps) rest h e =
 pub read-stands : (s t : Standing) (handle : Handle) (cell : CellTree) → Reads s t → Stands s handle.0 cell → Stands t handle.0 cell
 read-stands s t handle cell reads h = reads.stays.lasts.known handle.0 cell h
 
-read-builds : (s t u : Standing) (cell : CellTree) (answer : Result Handle Full) → Reads s t → Builds t u cell answer → Builds s u cell answer
+pub reads-adds : (s t : Standing) (cells : List CellTree) → Reads s t → Adds s t cells
+reads-adds s t cells reads = record { gains = stays-gains s t cells reads.stays; memo = reads.memo; missed = reads.missed }
+
+pub read-builds : (s t u : Standing) (cell : CellTree) (answer : Result Handle Full) → Reads s t → Builds t u cell answer → Builds s u cell answer
 read-builds s t u cell answer reads b = record {
-  adds = adds-then s t u (parts cell) (record { gains = stays-gains s t (parts cell) reads.stays; memo = reads.memo; missed = reads.missed }) b.adds;
+  adds = adds-then s t u (parts cell) (reads-adds s t (parts cell) reads) b.adds;
   ok = b.ok;
   full = b.full;
 }

@@ -1,5 +1,5 @@
 -- Trees that fit have parts of the kinds that are declared for their places, and may have others of these there.
-use Rattle.std.proofs.Common.{◌≡◌, ℕ, zero, suc, List, [], ◌∷◌, Some, option_map, IsTrue, refl, sym, ap, ◌∙◌, subst}
+use Rattle.std.proofs.Common.{◌≡◌, ℕ, zero, suc, List, [], ◌∷◌, Some, IsSome, option_map, IsTrue, refl, sym, ap, ◌∙◌, subst}
 use Rattle.std.specs.Option.{option_and_then}
 use Rattle.std.proofs.lemmas.Bool.{and_parts, and_from, false≢true}
 use Rattle.std.proofs.lemmas.Option.{same_Some}
@@ -20,6 +20,24 @@ module _ (prods : List Production) where
   root-kind (node p kids) kind h =
       let own = left_kind prods p kind (and_parts (is_left prods p kind) (each_fits prods kids (kids_of prods p)) h).0 in
       ap (option_map (λ (q : Production). k.Sort q.left)) own.1 ∙ ap Some own.2
+
+  -- a part of a tree that fits
+  mutual
+    part-fits : (t part : Tree) (kind : Kind) (steps : List ℕ) → IsTrue (fits prods t kind) → at_place t steps ≡ Some part → (own : Kind) × IsTrue (fits prods part own)
+    part-fits t part kind [] h e = (kind, subst (λ w. IsTrue (fits prods w kind)) (same_Some t part e) h)
+    part-fits (int i) part kind (s ∷ steps) h e = absurd (cc)
+    part-fits (bool b) part kind (s ∷ steps) h e = absurd (cc)
+    part-fits (name n) part kind (s ∷ steps) h e = absurd (cc)
+    part-fits (node p kids) part kind (s ∷ steps) h e = each-part-fits kids part (kids_of prods p) s steps (and_parts (is_left prods p kind) (each_fits prods kids (kids_of prods p)) h).1 e
+
+    each-part-fits : (ts : Trees) (part : Tree) (kids : List Kid) (s : ℕ) (steps : List ℕ) → IsTrue (each_fits prods ts kids) → among ts s steps ≡ Some part → (own : Kind) × IsTrue (fits prods part own)
+    each-part-fits none part kids s steps h e = absurd (cc)
+    each-part-fits (more t ts) part [] s steps h e = absurd (false≢true h)
+    each-part-fits (more t ts) part (kid ∷ kids) zero steps h e = part-fits t part kid.kind steps (and_parts (fits prods t kid.kind) (each_fits prods ts kids) h).0 e
+    each-part-fits (more t ts) part (kid ∷ kids) (suc s) steps h e = each-part-fits ts part kids s steps (and_parts (fits prods t kid.kind) (each_fits prods ts kids) h).1 e
+
+  pub part-kind : (t part : Tree) (kind : Kind) (steps : List ℕ) → IsTrue (fits prods t kind) → at_place t steps ≡ Some part → IsSome (kind_of prods part)
+  part-kind t part kind steps h e = let (own, is) = part-fits t part kind steps h e in subst IsSome (sym (root-kind part own is)) refl
 
   mutual
     pub kind-at : (t : Tree) (kind : Kind) (steps : List ℕ) → IsTrue (fits prods t kind) → option_and_then (kind_of prods) (at_place t steps) ≡ declared_at prods t kind steps

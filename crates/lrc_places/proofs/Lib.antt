@@ -3,3 +3,4 @@ pub mod DeclaredLemmas
 pub mod ShapeLemmas
 pub mod KidLemmas
 pub mod BuildLemmas
+pub mod PutLemmas

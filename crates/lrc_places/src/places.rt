@@ -10,7 +10,7 @@ use lrc_store::{Handle, Store};
 
 /// The child of this number, from 0, of the list that the handle stands for; None where there is no
 /// such child.
-fn kid_at<St: Store>(store: &mut St, kids: Handle, number: u32) -> Option<Handle>
+fn kid_at<St: Store>(store: &mut St, kids: Handle, number: u8) -> Option<Handle>
     requires { (ts : Trees) × Stands (St.state store.old) kids.0 (kids_cell ts) }
     ensures kid { (ts : Trees) → Stands (St.state store.old) kids.0 (kids_cell ts) → FindsPart (St.state store.new) (slice_get (in_order ts) number) result }
     ensures reads { Reads (St.state store.old) (St.state store.new) }
@@ -37,7 +37,7 @@ pub fn part_at<St: Store>(store: &mut St, tree: Handle, steps: &[u8]) -> Option<
         let Shape::Node(_, kids) = shape_of(store, here) else {
             return None;
         };
-        here = kid_at(store, kids, u32::from(*step))?;
+        here = kid_at(store, kids, *step)?;
     }
     Some(here)
 }

@@ -1,8 +1,9 @@
-ghost use Rattle.std.specs.Prelude.{◌≡◌, ◌≤◌, IsTrue, length};
+ghost use Rattle.std.specs.Prelude.{◌≡◌, ◌≤◌, Some, IsTrue, length};
 ghost use Rattle.lrc_base.specs.declared.grammar.Kind.{Kind};
-ghost use Rattle.lrc_meaning.specs.Tree.{Tree, tree, fits};
+ghost use Rattle.lrc_meaning.specs.Tree.{Tree, tree, fits, at_place, replaced};
 ghost use Rattle.lrc_store.specs.Standing.{Stands};
-ghost use Rattle.lrc_code.specs.Forms.{tree_cell};
+ghost use Rattle.lrc_code.specs.Forms.{tree_cell, are_productions_below};
+ghost use Rattle.lrc_code.specs.Building.{Builds};
 ghost use Rattle.lrc_places.specs.Replacing.{Replaces};
 
 use crate::kinds::kind_of;
@@ -13,7 +14,7 @@ use lrc_code::put_term;
 use lrc_store::{Full, Handle, Store};
 
 /// A term, with its kind, and the place where it is to be put.
-#[derive(Debug, Clone, Copy)]
+#[derive(Debug, Drop)]
 pub struct Put<'a> {
     pub path: &'a Path,
     pub kind: Kind,
@@ -41,6 +42,18 @@ impl From<Full> for ReplaceFault {
     }
 }
 
+/// A handle of the tree with the term at the place, which is there. All productions' numbers are below
+/// 65,280.
+fn put_at<St: Store>(store: &mut St, whole: Handle, put: &Put) -> Result<Handle, Full>
+    requires whole { (t : Tree) × Stands (St.state store.old) whole.0 (tree_cell t) × IsTrue (are_productions_below 65280 t) }
+    requires term { IsTrue (are_productions_below 65280 (tree put.now.term.now)) }
+    ensures builds { (t old : Tree) → Stands (St.state store.old) whole.0 (tree_cell t) → at_place t put.now.path.now.steps ≡ Some old → Builds (St.state store.old) (St.state store.new) (tree_cell (replaced t put.now.path.now.steps (tree put.now.term.now))) result }
+    ensures same_meaning { St.meaning store.new ≡ St.meaning store.old }
+{
+    let term = put_term(store, put.term)?;
+    replaced(store, whole, put.path.steps.as_slice(), term)
+}
+
 /// A handle of the tree with the term at the place, where a part of the term's kind stands.
 ///
 /// The place and the kind of what stands there are looked up before anything is put, so that the store
@@ -63,11 +76,9 @@ pub fn replace<St: Store>(
     ensures replaces { (t : Tree) (kind : Kind) → IsTrue (fits prods.now t kind) → Stands (St.state store.old) whole.0 (tree_cell t) → Replaces prods.now (St.state store.old) (St.state store.new) t put.now.path.now.steps (tree put.now.term.now) put.now.kind result }
     ensures same_meaning { St.meaning store.new ≡ St.meaning store.old }
 {
-    let steps = put.path.steps.as_slice();
-    let part = part_at(store, whole, steps).ok_or(ReplaceFault::BadPath)?;
+    let part = part_at(store, whole, put.path.steps.as_slice()).ok_or(ReplaceFault::BadPath)?;
     if kind_of(store, prods, part) != put.kind {
         return Err(ReplaceFault::WrongSort);
     }
-    let term = put_term(store, put.term)?;
-    Ok(replaced(store, whole, steps, term)?)
+    Ok(put_at(store, whole, put)?)
 }

@@ -46,7 +46,7 @@ pub fn replaced<St: Store>(
     let Shape::Node(production, kids) = shape_of(store, tree) else {
         return Ok(told(store, tree));
     };
-    let kids = replaced_among(store, kids, u32::from(*step), rest, part)?;
+    let kids = replaced_among(store, kids, *step, rest, part)?;
     put_node(store, production, kids)
 }
 
@@ -56,7 +56,7 @@ pub fn replaced<St: Store>(
 fn replaced_among<St: Store>(
     store: &mut St,
     kids: Handle,
-    step: u32,
+    step: u8,
     steps: &[u8],
     part: Handle,
 ) -> Result<Handle, Full>
