@@ -1,8 +1,10 @@
 -- The lines of a session: what each edit is answered, and its text without its number.
-use Rattle.std.specs.Prelude.{◌≡◌, List, [], ◌∷◌, ⊤}
+use Rattle.std.specs.Prelude.{ℕ, ◌≡◌, List, [], ◌∷◌, codes, ⊤}
 use Rattle.lrc_meaning.specs.Grammar.{Grammar}
-use Rattle.lrc_meaning.specs.Editing.{Reply, values, bad_path, wrong_sort, too_deep, full, unopened, shown, forgot}
+use Rattle.lrc_meaning.specs.Editing.{Reply, values, bad_path, wrong_sort, too_deep, full, unopened}
 use Rattle.lrc_meaning.specs.Text.{reply_body}
+use Rattle.lrc_session.specs.declared.fault.EditFault.{EditFault}
+use Rattle.lrc_session.specs.declared.fault.EditFault.TheVariants as fault
 use Rattle.lrc_run.specs.declared.reply.Outcome.{Outcome}
 use Rattle.lrc_run.specs.declared.reply.Outcome.TheVariants as outcome
 use Rattle.lrc_run.specs.declared.reply.Line.{Line}
@@ -27,3 +29,28 @@ AreLines g [] [] = ⊤
 AreLines g [] (line ∷ lines) = ⊥
 AreLines g (reply ∷ replies) [] = ⊥
 AreLines g (reply ∷ replies) (line ∷ lines) = IsLine g reply line × AreLines g replies lines
+
+-- the reply of this kind; the one without values
+abbrev pub reply_of : Outcome → Reply
+reply_of outcome.Values = values []
+reply_of outcome.BadPath = bad_path
+reply_of outcome.WrongSort = wrong_sort
+reply_of outcome.TooDeep = too_deep
+reply_of outcome.Full = full
+reply_of outcome.Unopened = unopened
+
+-- its text, where it is a refusal
+abbrev pub refusal_text : Outcome → List ℕ
+refusal_text outcome.Values = []
+refusal_text outcome.BadPath = codes " badpath"
+refusal_text outcome.WrongSort = codes " wrongsort"
+refusal_text outcome.TooDeep = codes " toodeep"
+refusal_text outcome.Full = codes " full"
+refusal_text outcome.Unopened = codes " unopened"
+
+-- what an edit is answered that was refused
+abbrev pub outcome_of : EditFault → Outcome
+outcome_of fault.BadPath = outcome.BadPath
+outcome_of fault.WrongSort = outcome.WrongSort
+outcome_of fault.TooDeep = outcome.TooDeep
+outcome_of fault.Full = outcome.Full

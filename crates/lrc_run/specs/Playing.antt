@@ -9,7 +9,7 @@ use Rattle.lrc_meaning.specs.Tree.{Tree, tree, fits}
 use Rattle.lrc_meaning.specs.Editing.{change, Reply, Attempt, ReplyRun}
 use Rattle.lrc_meaning.specs.Text.{unparsed}
 use Rattle.lrc_store.specs.Cells.{CellTree, IsWithin}
-use Rattle.lrc_store.specs.Standing.{Standing, Stands, IsSound, Told}
+use Rattle.lrc_store.specs.Standing.{Standing, Stands, IsSound}
 use Rattle.lrc_store.specs.declared.cells.Handle.{Handle}
 use Rattle.lrc_code.specs.Forms.{tree_cell}
 use Rattle.lrc_functions.specs.declared.functions.Functions.{Functions}
@@ -46,14 +46,14 @@ module _ (functions : Functions) (limit : ℕ) where
   -- At an attempt all rows of a store are used, and they are fewer than the cells that are demanded so far.
   pub record RunsOut (s : Standing) (earlier : List Attempt) (t : Tree) : Type 0 where
     pub used : length s.made ≡ s.quota
-    pub less : IsLessThanWanted grammar sorts limit (length s.made) earlier t
-    pub wants : WantsMore grammar sorts limit earlier t
+    pub less : IsLessThanWanted (grammar functions) (sorts functions) limit (length s.made) earlier t
+    pub wants : WantsMore (grammar functions) (sorts functions) limit earlier t
 
   -- What a store has after these attempts: rows of what they demand, and all that those demand that were answered with values.
   pub record Holds (s : Standing) (attempts : List Attempt) : Type 0 where
     pub sound : IsSound s
-    pub made : IsWithin s.made (demands grammar sorts limit attempts)
-    pub seen : (seen : List CellTree) × (s.seen ≡ Some seen) × ((attempt : Attempt) → Contains attempts attempt → IsTrue attempt.answered → IsWithin (demands grammar sorts limit (attempt ∷ [])) seen)
+    pub made : IsWithin s.made (demands (grammar functions) (sorts functions) limit attempts)
+    pub seen : (seen : List CellTree) × (s.seen ≡ Some seen) × ((attempt : Attempt) → Contains attempts attempt → IsTrue attempt.answered → IsWithin (demands (grammar functions) (sorts functions) limit (attempt ∷ [])) seen)
 
   -- A session was played: its lines are those of its replies by the editing rules, where `full` comes only where the rows of the
   -- store have run out, and its last tree is in the store.
@@ -61,7 +61,7 @@ module _ (functions : Functions) (limit : ℕ) where
     pub replies : List Reply
     pub last : Option Tree
     pub attempts : List Attempt
-    pub runs : ReplyRun grammar limit (unparsed functions.plan.grammar.prods) (RunsOut s) (tree script.tree) (map change script.edits) replies last attempts
+    pub runs : ReplyRun (grammar functions) limit (unparsed functions.plan.grammar.prods) (RunsOut s) (tree script.tree) (map change script.edits) replies last attempts
     pub holds : Holds s attempts
-    pub lines : AreLines grammar replies out.lines
+    pub lines : AreLines (grammar functions) replies out.lines
     pub is_last : IsLast s last out.last
