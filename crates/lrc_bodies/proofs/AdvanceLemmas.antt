@@ -44,6 +44,10 @@ use Rattle.lrc_bodies.specs.Advancing.{Faces, Advances}
 use Rattle.lrc_bodies.proofs.ProperLemmas.{called, IsCalled}
 use Rattle.lrc_bodies.proofs.PointLemmas.{needed}
 use Rattle.lrc_bodies.proofs.ActionLemmas.{evaluation_cells_are, defined, no_value, evaluates, visit_there, no_call}
+use Rattle.lrc_machine.specs.Counts.{IsKept}
+use Rattle.lrc_machine.proofs.CountLemmas.{keeps_same}
+use Rattle.lrc_bodies.specs.Counting.{AreMade}
+use Rattle.lrc_bodies.proofs.CountingLemmas.{made_evaluating, whole_on}
 use Rattle.lrc_bodies.proofs.LoopLemmas.{waits_on}
 use Rattle.lrc_bodies.proofs.OpenLemmas.{asks_on}
 use Rattle.lrc_bodies.proofs.ResumeLemmas.{told_both, function_there}
@@ -138,6 +142,9 @@ module _ (g : Grammar) (parts : List Partition) (productions : List (List Functi
         abbrev Answers : Result Bool Full → Type 0
         Answers = Evaluates g parts s t after_frame mark.body run_here o
 
+        kept : (answer : Result Bool Full) → Answers answer → IsKept s t
+        kept answer h = record { memo = h.adds.memo; missed = h.adds.missed }
+
         gained : (answer : Result Bool Full) → Answers answer → Gains s t (cells_of (reach g parts (suc fuel) c))
         gained answer h = gains-more s t (evaluation_cells g parts run_here o) (cells_of (reach g parts (suc fuel) c)) within_reach h.adds.gains
 
@@ -146,6 +153,8 @@ module _ (g : Grammar) (parts : List Partition) (productions : List (List Functi
         evaluation_stopped e (Err f) is h = record {
           gains = gained (Err e) h;
           moves = tt;
+          counts = tt;
+          wholes = whole_on g parts s.memo t.memo h.adds.memo;
           full = lacks-more t (evaluation_cells g parts run_here o) (cells_of (reach g parts (suc fuel) c)) within_reach h.full;
         }
 
@@ -153,6 +162,8 @@ module _ (g : Grammar) (parts : List Partition) (productions : List (List Functi
         evaluation_none true is_false h = absurd (false≢true (sym is_false))
         evaluation_none false is_false h = record {
           gains = gained (Ok false) h;
+          counts = kept (Ok false) h;
+          wholes = whole_on g parts s.memo t.memo h.adds.memo;
           moves = no_value g parts fuel c mark.body.production run_here mark.at mark.height faces.runs.met point_here o next_eval h.ok;
           full = tt;
         }
@@ -163,6 +174,8 @@ module _ (g : Grammar) (parts : List Partition) (productions : List (List Functi
             let met = faces.runs.met in
             let lasts = h.adds.gains.lasts in record {
               gains = gained (Ok true) h;
+              counts = kept (Ok true) h;
+              wholes = whole_on g parts s.memo t.memo h.adds.memo;
               moves = (
                 record {
                   asks = asks_on g parts s t c mark.call.0 lasts.known faces.runs.asks;
@@ -173,6 +186,7 @@ module _ (g : Grammar) (parts : List Partition) (productions : List (List Functi
                   runs = h.ok.2;
                   seen = told_both t.seen met (evaluation_met g parts run_here o) (told-lasts s.seen t.seen (cells_of met) lasts.seen faces.runs.seen)
                       (subst (λ (cells : List CellTree). Told t.seen (IsWithin cells)) (sym (evaluation_cells_are g parts run_here o)) h.ok.3);
+                  made = subst (λ pairs. Told pairs (AreMade g parts (met ++ evaluation_met g parts run_here o))) (sym h.adds.memo) (made_evaluating g parts s.memo met run_here o faces.runs.made);
                   low = faces.runs.low;
                 },
                 (let less = some_left (op.Eval o equation) faces in omega (arith, less)),
@@ -220,6 +234,9 @@ module _ (g : Grammar) (parts : List Partition) (productions : List (List Functi
         abbrev CallAnswers : Result (Option Handle) Full → Type 0
         CallAnswers = Calls g parts s t run_at symbol visit
 
+        call_kept : (answer : Result (Option Handle) Full) → CallAnswers answer → IsKept s t
+        call_kept answer h = record { memo = h.adds.memo; missed = h.adds.missed }
+
         call_gained : (answer : Result (Option Handle) Full) → CallAnswers answer → Gains s t (cells_of (reach g parts (suc fuel) c))
         call_gained answer h = gains-more s t (call_cells g parts run_at symbol visit) (cells_of (reach g parts (suc fuel) c)) call_reach h.adds.gains
 
@@ -228,6 +245,8 @@ module _ (g : Grammar) (parts : List Partition) (productions : List (List Functi
         call_stopped e (Err f) is h = record {
           gains = call_gained (Err e) h;
           moves = tt;
+          counts = tt;
+          wholes = whole_on g parts s.memo t.memo h.adds.memo;
           full = lacks-more t (call_cells g parts run_at symbol visit) (cells_of (reach g parts (suc fuel) c)) call_reach h.full;
         }
 
@@ -235,6 +254,8 @@ module _ (g : Grammar) (parts : List Partition) (productions : List (List Functi
         call_none (Some handle) is h = absurd (none-some handle (sym is))
         call_none None is h = record {
           gains = call_gained (Ok None) h;
+          counts = call_kept (Ok None) h;
+          wholes = whole_on g parts s.memo t.memo h.adds.memo;
           moves = no_call g parts fuel c mark.body.production run_at mark.at mark.height faces.runs.met point_at symbol visit next_visit h.ok;
           full = tt;
         }
@@ -255,12 +276,15 @@ module _ (g : Grammar) (parts : List Partition) (productions : List (List Functi
               visit = faces.runs.visit;
               runs = faces.runs.runs;
               seen = faces.runs.seen;
+              made = faces.runs.made;
               low = faces.runs.low;
             } in record {
               gains = call_gained (Ok (Some made_handle)) h;
+              counts = call_kept (Ok (Some made_handle)) h;
+              wholes = whole_on g parts s.memo t.memo h.adds.memo;
               moves = (
                 inner,
-                waits_on g parts s frame fuel c mark inner waits t h.adds.gains.lasts,
+                waits_on g parts s frame fuel c mark inner waits t h.adds.gains.lasts (keeps_same s.memo t.memo h.adds.memo),
                 record { sound = faces.runs.asks.sound; spelled = h.ok.2; stands = subst (λ (x : Handle). Stands t x.0 (call_form inner)) same h.ok.1.stands },
                 omega (arith, less),
                 omega arith,

@@ -1,5 +1,5 @@
 -- The end of a body: its result is made, and may be remembered, since all that its call meets is in the store for good.
-use Rattle.std.proofs.Common.{◌≡◌, ℕ, suc, ◌+◌, ◌<◌, ◌≤◌, ◌^◌, List, length, Option, Some, None, refl, sym, ap, ◌∙◌, subst, arith}
+use Rattle.std.proofs.Common.{◌≡◌, ◌⊎◌, Contains, ℕ, suc, ◌+◌, ◌<◌, ◌≤◌, ◌^◌, List, length, Option, Some, None, refl, sym, ap, ◌∙◌, subst, arith}
 use Rattle.std.specs.Prelude.{Result, Ok, Err, IsErr, OnErr}
 use Rattle.std.proofs.lemmas.Bool.{false≢true}
 use Rattle.std.proofs.lemmas.List.{length-map}
@@ -11,10 +11,10 @@ use Rattle.lrc_plan_meaning.specs.Sound.{IsSound}
 use Rattle.lrc_visit_meaning.specs.Values as plain
 use Rattle.lrc_visit_meaning.specs.Values.{Call}
 use Rattle.lrc_visit_meaning.specs.Visits.{Walked, plain_visit}
-use Rattle.lrc_visit_meaning.specs.Demand.{reach}
+use Rattle.lrc_visit_meaning.specs.Demand.{called, reach}
 use Rattle.lrc_store.specs.Cells.{CellTree, parts as parts_of, IsWithin}
 use Rattle.lrc_store.specs.Standing.{Standing, Stands, IsKnown, IsSound as IsStoreSound, Told, meant}
-use Rattle.lrc_store.specs.Words.{Stays, LacksOne}
+use Rattle.lrc_store.specs.Words.{Stays, LacksOne, Remembers}
 use Rattle.lrc_store.specs.declared.cells.Handle.{Handle}
 use Rattle.lrc_store.specs.declared.stores.Full.{Full}
 use Rattle.lrc_store.proofs.Known.{stands-known, stands-meant}
@@ -39,7 +39,9 @@ use Rattle.lrc_bodies.specs.declared.mark.Mark.{Mark}
 use Rattle.lrc_bodies.specs.declared.remembered.VisitMeaning.{VisitMeaning}
 use Rattle.lrc_bodies.specs.Points.{segment_of, Point}
 use Rattle.lrc_bodies.specs.Advancing.{IsAtEnd, EndsWith}
-use Rattle.lrc_bodies.proofs.PointLemmas.{result, ends, is_done}
+use Rattle.lrc_bodies.specs.Counting.{MeetsCall}
+use Rattle.lrc_bodies.proofs.CountingLemmas.{remembers_is, has_pair, calls_at_end, whole_ended, whole_on}
+use Rattle.lrc_bodies.proofs.PointLemmas.{result, ends, is_done, all_met}
 use Rattle.lrc_bodies.proofs.MetCellLemmas.{result_cells_within, reached_within}
 
 -- what follows from three facts that are told is told
@@ -110,6 +112,8 @@ module _ (g : Grammar) (parts : List Partition) (s : Standing) (frame : List Val
     end_stopped e (Err f) is h = record {
       gains = gains-more s t (parts_of (result_form outcome)) reached result_within h.builds.adds.gains;
       gives = tt;
+      counts = tt;
+      wholes = whole_on g parts s.memo t.memo h.builds.adds.memo;
       full = lacks-more t (parts_of (result_form outcome)) reached result_within h.builds.full;
     }
 
@@ -185,8 +189,13 @@ module _ (g : Grammar) (parts : List Partition) (s : Standing) (frame : List Val
             subst (λ (ps : List Partition). Told t.seen (IsWithin (reached_by (grammar_of now.grammar) ps (meant t mark.call.0) (meant t made.0)))) parts_now
             (subst (λ (gr : Grammar). Told t.seen (IsWithin (reached_by gr parts (meant t mark.call.0) (meant t made.0)))) grammar_now reached_here)
 
-      pub body_ended : (u : Standing) → Stays t u → EndsWith g parts s u fuel c (Ok made)
-      body_ended u stays = record {
+      -- the calls of its reach are itself and those that its body made
+      calls_made : (d : Call) → MeetsCall g parts (suc fuel) c d → (c ≡ d) ⊎ Contains end.runs.met (called d)
+      calls_made d meets =
+          calls_at_end c end.runs.met outcome d (all_met g parts fuel c mark.body.production run mark.at mark.height end.runs.met point sound all_done (called d) meets)
+
+      pub body_ended : (u : Standing) → Stays t u → u.missed ≡ t.missed → Remembers t.memo u.memo (meant t mark.call.0) (meant t made.0) → EndsWith g parts s u fuel c (Ok made)
+      body_ended u stays missed remembers = let gained = remembers_is s.memo t.memo u.memo (meant t mark.call.0) (meant t made.0) c outcome h.builds.adds.memo call_is made_is remembers in record {
         gains = gains-then s t u reached (gains-more s t (parts_of (result_form outcome)) reached result_within h.builds.adds.gains) (stays-gains t u reached stays);
         gives = record {
           outcome = outcome;
@@ -194,6 +203,10 @@ module _ (g : Grammar) (parts : List Partition) (s : Standing) (frame : List Val
           spelled = h.spelled;
           stands = stays.lasts.known made.0 (result_form outcome) h.builds.ok.stands;
           reached = told-lasts t.seen u.seen reached stays.lasts.seen all_told;
+          spelled_call = end.runs.asks.spelled;
+          remembered = has_pair s.memo u.memo c outcome gained;
         };
+        counts = record { outcome = result_form outcome; remembers = gained; missed = missed ∙ h.builds.adds.missed };
+        wholes = whole_ended g parts s.memo u.memo (suc fuel) c outcome end.runs.met end.runs.asks.spelled outcome_is calls_made gained end.runs.made;
         full = tt;
       }

@@ -6,6 +6,7 @@ pub mod WaitLemmas
 pub mod MetCellLemmas
 pub mod RoomLemmas
 pub mod BodyLemmas
+pub mod CountingLemmas
 pub mod LoopLemmas
 pub mod OpenLemmas
 pub mod ResumeLemmas

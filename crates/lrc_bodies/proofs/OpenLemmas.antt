@@ -12,8 +12,8 @@ use Rattle.lrc_visit_meaning.specs.Values.{Call, Result}
 use Rattle.lrc_visit_meaning.specs.Visits.{plain_visit}
 use Rattle.lrc_visit_meaning.specs.Demand.{reach}
 use Rattle.lrc_store.specs.Cells.{CellTree, number, pair, IsWithin}
-use Rattle.lrc_store.specs.Standing.{Standing, Stands, Told, meant}
-use Rattle.lrc_store.specs.Words.{Keeps, Lasts, Shows, Finds}
+use Rattle.lrc_store.specs.Standing.{Standing, Stands, Told, IsRemembered, meant}
+use Rattle.lrc_store.specs.Words.{Keeps, Lasts, Reads, Shows, Finds, Misses}
 use Rattle.lrc_store.specs.declared.cells.Cell.{Cell}
 use Rattle.lrc_store.specs.declared.cells.Cell.TheVariants as cell
 use Rattle.lrc_store.specs.declared.cells.Handle.{Handle}
@@ -23,7 +23,7 @@ use Rattle.lrc_eval.proofs.CellLemmas.{told-none, told-lasts}
 use Rattle.lrc_call_meaning.specs.Forms.{call_form, result_form}
 use Rattle.lrc_call_meaning.specs.Meaning.{Allows, reached_by}
 use Rattle.lrc_call_meaning.specs.Reached.{cells_of}
-use Rattle.lrc_call_meaning.specs.Spelled.{IsSpelledResult}
+use Rattle.lrc_call_meaning.specs.Spelled.{IsSpelledCall, IsSpelledResult}
 use Rattle.lrc_call_meaning.proofs.DecodingLemmas.{calls-injective}
 use Rattle.lrc_cell_laws.proofs.MeaningLemmas.{reached_is}
 use Rattle.lrc_functions.specs.declared.function.Function.{Function}
@@ -32,6 +32,11 @@ use Rattle.lrc_frames.specs.Steps.{Begins}
 use Rattle.lrc_bodies.specs.declared.mark.Mark.{Mark}
 use Rattle.lrc_bodies.specs.Points.{Point}
 use Rattle.lrc_bodies.specs.Bodies.{no_function, left_at, most_left, Asks, Gives, Runs}
+use Rattle.lrc_machine.specs.declared.bodies.Opened.{Opened}
+use Rattle.lrc_machine.specs.declared.bodies.Opened.TheVariants as o
+use Rattle.lrc_machine.specs.Steps.{Opens}
+use Rattle.lrc_machine.specs.Counts.{IsKept, IsMissed}
+use Rattle.lrc_bodies.proofs.CountingLemmas.{HasPair, pair_on, pair_is, made_none}
 use Rattle.lrc_bodies.proofs.HitLemmas.{hit, hit_reach, too_high}
 use Rattle.lrc_bodies.proofs.PointLemmas.{begins}
 
@@ -89,6 +94,28 @@ not_low b height fuel low e = over (cases_lt fuel height) where
   over (inl less) = less
   over (inr above) = absurd (false≢true (sym e ∙ low.1 above))
 
+-- ---- what is remembered and missed
+
+-- a recall that found a result, and one that found none, with a read behind each
+pub kept_found : (s t u : Standing) → t.memo ≡ s.memo → t.missed ≡ s.missed → Reads t u → IsKept s u
+kept_found s t u memo missed reads = record { memo = reads.memo ∙ memo; missed = reads.missed ∙ missed }
+
+pub missed_one : (s t u : Standing) (handle : ℕ) (c : Call) → Stands s handle (call_form c) → t.memo ≡ s.memo → Misses s t (meant s handle) → Reads t u → IsMissed s u (call_form c)
+missed_one s t u handle c stands memo misses reads = record {
+  memo = reads.memo ∙ memo;
+  misses = record {
+    missing = subst (λ cell. Told s.memo (λ pairs. ¬ IsRemembered pairs cell)) (stands-meant s handle (call_form c) stands) misses.missing;
+    missed = reads.missed ∙ misses.missed;
+  };
+}
+
+-- what begins, or has no result, and was not found
+pub opens_missed : (s t : Standing) (call : CellTree) (answer : Opened Mark) → ((given : Handle) → ¬ (answer ≡ o.Hit given)) → IsMissed s t call
+    → Opens (λ _. IsKept s t) (λ _. IsMissed s t call) (t.memo ≡ s.memo) answer
+opens_missed s t call (o.Hit given) no_hit missed = absurd (no_hit given refl)
+opens_missed s t call (o.Begun mark) no_hit missed = missed
+opens_missed s t call o.Deep no_hit missed = missed.memo
+
 module _ (g : Grammar) (parts : List Partition) where
   -- a call is asked for on while the store's knowledge grows
   pub asks_on : (s t : Standing) (c : Call) (handle : ℕ) → Keeps s t → Asks g parts s c handle → Asks g parts t c handle
@@ -102,13 +129,17 @@ module _ (g : Grammar) (parts : List Partition) where
     pub spelled : IsSpelledResult r
     pub stands : Stands s handle (result_form r)
     pub reached : Told s.seen (IsWithin (cells_of (reach g parts r.height c)))
+    pub spelled_call : IsSpelledCall c
+    pub remembered : HasPair s.memo c r
 
-  pub found_on : (s t : Standing) (c : Call) (handle : ℕ) (r : Result) → Lasts s t → IsFound s c handle r → IsFound t c handle r
-  found_on s t c handle r lasts f = record {
+  pub found_on : (s t : Standing) (c : Call) (handle : ℕ) (r : Result) → Lasts s t → t.memo ≡ s.memo → IsFound s c handle r → IsFound t c handle r
+  found_on s t c handle r lasts memo f = record {
     is_result = f.is_result;
     spelled = f.spelled;
     stands = lasts.known handle (result_form r) f.stands;
     reached = told-lasts s.seen t.seen (cells_of (reach g parts r.height c)) lasts.seen f.reached;
+    spelled_call = f.spelled_call;
+    remembered = pair_on s.memo t.memo c r memo f.remembered;
   }
 
   -- it is what the call gives with each fuel that is no lower
@@ -119,6 +150,8 @@ module _ (g : Grammar) (parts : List Partition) where
     spelled = f.spelled;
     stands = f.stands;
     reached = subst (λ ms. Told s.seen (IsWithin (cells_of ms))) (sym (hit_reach g parts c r f.is_result fuel low)) f.reached;
+    spelled_call = f.spelled_call;
+    remembered = f.remembered;
   }
 
   pub found_high : (s : Standing) (c : Call) (handle : ℕ) (r : Result) (fuel : ℕ) → IsFound s c handle r → fuel < r.height → plain_visit g parts fuel c ≡ None
@@ -139,14 +172,15 @@ module _ (g : Grammar) (parts : List Partition) where
     visit = b.visit;
     runs = b.runs;
     seen = told-none s.seen;
+    made = made_none g parts s.memo;
     low = omega (arith, flat);
   }
 
 -- What a store finds for a call, of a meaning that is that of these visits, is a result of the call.
 module _ (g : Grammar) (parts : Partitions) (h : Grammar) (found : Partitions) (same_grammar : h ≡ g) (same_parts : found ≡ parts) where
-  remembered : (s t : Standing) (c : Call) (call handle : ℕ) → Asks g parts.sorts s c call → Finds (Allows g parts.sorts) (reached_by g parts.sorts) s t (meant s call) (meant t handle) handle
+  remembered : (s t : Standing) (c : Call) (call handle : ℕ) → t.memo ≡ s.memo → Asks g parts.sorts s c call → Finds (Allows g parts.sorts) (reached_by g parts.sorts) s t (meant s call) (meant t handle) handle
       → (r : Result) × IsFound g parts.sorts t c handle r
-  remembered s t c call handle asks f =
+  remembered s t c call handle memo asks f =
       let a = f.allowed in
       let r = a.result in
       let same = calls-injective a.asked c a.spelled_call asks.spelled (sym a.is_call ∙ stands-meant s call (call_form c) asks.stands) in (
@@ -158,12 +192,14 @@ module _ (g : Grammar) (parts : Partitions) (h : Grammar) (found : Partitions) (
           reached = subst (λ cells. Told t.seen (IsWithin cells))
               (reached_is g parts.sorts (meant s call) (meant t handle) a ∙ ap (λ d. cells_of (reach g parts.sorts r.height d)) same)
               f.reached;
+          spelled_call = asks.spelled;
+          remembered = pair_on s.memo t.memo c r memo (pair_is s.memo (meant s call) (meant t handle) c r (stands-meant s call (call_form c) asks.stands) a.is_outcome f.remembered);
         },
       )
 
-  pub found_result : (s t : Standing) (c : Call) (call handle : ℕ) → Asks g parts.sorts s c call → Finds (Allows h found.sorts) (reached_by h found.sorts) s t (meant s call) (meant t handle) handle
+  pub found_result : (s t : Standing) (c : Call) (call handle : ℕ) → t.memo ≡ s.memo → Asks g parts.sorts s c call → Finds (Allows h found.sorts) (reached_by h found.sorts) s t (meant s call) (meant t handle) handle
       → (r : Result) × IsFound g parts.sorts t c handle r
-  found_result s t c call handle asks f =
-      remembered s t c call handle asks
+  found_result s t c call handle memo asks f =
+      remembered s t c call handle memo asks
       (subst (λ k. Finds (Allows k parts.sorts) (reached_by k parts.sorts) s t (meant s call) (meant t handle) handle) same_grammar
       (subst (λ (ps : Partitions). Finds (Allows h ps.sorts) (reached_by h ps.sorts) s t (meant s call) (meant t handle) handle) same_parts f))

@@ -33,6 +33,8 @@ use Rattle.lrc_frames.specs.Taking.{TakesFrom, Takes}
 use Rattle.lrc_bodies.specs.declared.mark.Mark.{Mark}
 use Rattle.lrc_bodies.specs.Points.{Point}
 use Rattle.lrc_bodies.specs.Bodies.{no_function, function_at, left_at, Gives, Runs, WaitsAt}
+use Rattle.lrc_bodies.specs.Counting.{AreMade}
+use Rattle.lrc_bodies.proofs.CountingLemmas.{made_visiting}
 use Rattle.lrc_bodies.proofs.ProperLemmas.{called}
 use Rattle.lrc_bodies.proofs.ActionLemmas.{visit_there, visits, is_of}
 use Rattle.lrc_bodies.proofs.MetCellLemmas.{cells_of_both}
@@ -137,9 +139,9 @@ module _ (g : Grammar) (parts : List Partition) where
       }
 
       -- and the body goes on
-      pub goes_on : (t : Standing) (now : List Val) (read : ℕ) (next : Mark) → Lasts s t → fuel < 2 ^ 32 → Takes g parts t now mark.body w.run w.symbol w.visit_there gives.outcome read
+      pub goes_on : (t : Standing) (now : List Val) (read : ℕ) (next : Mark) → Lasts s t → t.memo ≡ s.memo → fuel < 2 ^ 32 → Takes g parts t now mark.body w.run w.symbol w.visit_there gives.outcome read
           → next ≡ record { call = mark.call; body = mark.body; at = mark.at + 1; height = max mark.height read } → Runs g parts t now fuel c next
-      goes_on t now read next lasts fits takes is = subst (λ (m : Mark). Runs g parts t now fuel c m) (sym is) (record {
+      goes_on t now read next lasts memo fits takes is = subst (λ (m : Mark). Runs g parts t now fuel c m) (sym is) (record {
         asks = asks_on g parts s t c mark.call.0 lasts.known w.asks;
         run = after g parts w.run (a.Visit w.symbol w.visit_there) (given_by gives.outcome).made;
         met = w.met ++ reach g parts fuel d;
@@ -148,6 +150,8 @@ module _ (g : Grammar) (parts : List Partition) where
         visit = w.visit;
         runs = takes.runs;
         seen = told_both t.seen w.met (reach g parts fuel d) (told-lasts s.seen t.seen (cells_of w.met) lasts.seen w.seen) (told-lasts s.seen t.seen (cells_of (reach g parts fuel d)) lasts.seen gives.reached);
+        made = subst (λ pairs. Told pairs (AreMade g parts (w.met ++ reach g parts fuel d))) (sym memo)
+            (made_visiting g parts s.memo w.met fuel d gives.outcome gives.spelled_call gives.is_result gives.remembered w.made);
         low = let high = bounded in let own = w.low in omega (arith, high, own, whole);
       })
         where

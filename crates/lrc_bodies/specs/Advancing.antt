@@ -10,6 +10,7 @@ use Rattle.lrc_store.specs.Standing.{Standing}
 use Rattle.lrc_store.specs.Words.{Gains, LacksOne}
 use Rattle.lrc_store.specs.declared.cells.Handle.{Handle}
 use Rattle.lrc_store.specs.declared.stores.Full.{Full}
+use Rattle.lrc_call_meaning.specs.Forms.{call_form}
 use Rattle.lrc_call_meaning.specs.Reached.{cells_of}
 use Rattle.lrc_eval.specs.declared.values.Val.{Val}
 use Rattle.lrc_functions.specs.declared.function.Function.{Function}
@@ -17,8 +18,10 @@ use Rattle.lrc_functions.specs.declared.function.Operation.{Operation}
 use Rattle.lrc_functions.specs.Functions.{function_of}
 use Rattle.lrc_machine.specs.declared.bodies.Moved.{Moved}
 use Rattle.lrc_machine.specs.Steps.{Moves}
+use Rattle.lrc_machine.specs.Counts.{IsKept, IsGained}
 use Rattle.lrc_bodies.specs.declared.mark.Mark.{Mark}
 use Rattle.lrc_bodies.specs.declared.remembered.VisitMeaning.{VisitMeaning}
+use Rattle.lrc_bodies.specs.Counting.{IsWhole}
 use Rattle.lrc_bodies.specs.Bodies.{function_at, left_at, Asks, Gives, Runs, WaitsAt}
 
 module _ (g : meaning.Grammar) (parts : List Partition) where
@@ -33,11 +36,17 @@ module _ (g : meaning.Grammar) (parts : List Partition) where
     pub same_grammar : grammar_of remembered.grammar ≡ g
     pub same_parts : remembered.parts.sorts ≡ parts
 
-  -- What the end of the body of a call with fuel + 1 answers: a handle of the call's result.
+  -- What the end of the body of a call with fuel + 1 answers: a handle of the call's result, which it remembers.
   pub record EndsWith (s t : Standing) (fuel : ℕ) (c : Call) (answer : Result Handle Full) : Type 0 where
     pub gains : Gains s t (cells_of (reach g parts (suc fuel) c))
     pub gives : IfOk answer (λ outcome. Gives g parts t (suc fuel) c outcome.0)
     pub full : OnErr answer (LacksOne t (cells_of (reach g parts (suc fuel) c)))
+    pub counts : IfOk answer (λ _. IsGained s t (call_form c))
+    pub wholes : IsWhole g parts s.memo → IsWhole g parts t.memo
+
+-- what a step of the body of the call does to what is remembered and missed: where it ends, the call is remembered
+abbrev pub CountsOn : Standing → Standing → Call → Moved Mark → Type 0
+CountsOn s t c = Moves (λ _. IsKept s t) (λ _ _. IsKept s t) (λ _. IsGained s t (call_form c)) (IsKept s t)
 
 module _ (g : meaning.Grammar) (parts : List Partition) (productions : List (List Function)) where
   -- The body runs at the mark, and this operation stands there in its function.
@@ -69,3 +78,5 @@ module _ (g : meaning.Grammar) (parts : List Partition) (productions : List (Lis
     pub gains : Gains s t (cells_of (reach g parts (suc fuel) c))
     pub moves : IfOk answer (MovesOn t frame fuel c mark)
     pub full : OnErr answer (LacksOne t (cells_of (reach g parts (suc fuel) c)))
+    pub counts : IfOk answer (CountsOn s t c)
+    pub wholes : IsWhole g parts s.memo → IsWhole g parts t.memo

@@ -20,6 +20,7 @@ use Rattle.lrc_frames.specs.Frames.{Run, RunsAt}
 use Rattle.lrc_bodies.specs.declared.mark.Mark.{Mark}
 use Rattle.lrc_bodies.specs.declared.remembered.VisitMeaning.{VisitMeaning}
 use Rattle.lrc_bodies.specs.Points.{Point, AtVisit}
+use Rattle.lrc_bodies.specs.Counting.{AreMade}
 
 -- how many actions the body at a mark has left
 abbrev pub no_function : Function
@@ -54,13 +55,16 @@ module _ (g : Grammar) (parts : List Partition) where
     pub spelled : IsSpelledCall c
     pub stands : Stands s handle (call_form c)
 
-  -- The handle stands for the result of the call with so much fuel, and all that the call meets is in the store for good.
+  -- The handle stands for the result of the call with so much fuel, all that the call meets is in the store for good, and the
+  -- result is remembered.
   pub record Gives (s : Standing) (fuel : ℕ) (c : Call) (handle : ℕ) : Type 0 where
     pub outcome : Result
     pub is_result : plain_visit g parts fuel c ≡ Some outcome
     pub spelled : IsSpelledResult outcome
     pub stands : Stands s handle (result_form outcome)
     pub reached : Told s.seen (IsWithin (cells_of (reach g parts fuel c)))
+    pub spelled_call : IsSpelledCall c
+    pub remembered : Told s.memo (λ pairs. Contains pairs (call_form c, result_form outcome))
 
   -- A body of the call, with fuel + 1, runs at the mark over the frame.
   pub record Runs (s : Standing) (frame : List Val) (fuel : ℕ) (c : Call) (mark : Mark) : Type 0 where
@@ -71,6 +75,7 @@ module _ (g : Grammar) (parts : List Partition) where
     pub visit : mark.body.visit ≡ c.visit
     pub runs : RunsAt g parts s frame mark.body run
     pub seen : Told s.seen (IsWithin (cells_of met))
+    pub made : Told s.memo (AreMade g parts met)
     pub low : mark.height ≤ fuel
 
   -- It waits there for the call of a visit.
@@ -84,4 +89,5 @@ module _ (g : Grammar) (parts : List Partition) where
     pub visit : mark.body.visit ≡ c.visit
     pub runs : RunsAt g parts s frame mark.body run
     pub seen : Told s.seen (IsWithin (cells_of met))
+    pub made : Told s.memo (AreMade g parts met)
     pub low : mark.height ≤ fuel

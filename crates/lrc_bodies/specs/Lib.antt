@@ -1,3 +1,4 @@
 pub mod Points
+pub mod Counting
 pub mod Bodies
 pub mod Advancing

@@ -8,7 +8,8 @@ ghost use Rattle.lrc_store.specs.Words.{Gains, LacksOne};
 ghost use Rattle.lrc_call_meaning.specs.Reached.{cells_of};
 ghost use Rattle.lrc_functions.specs.declared.function.Operation.TheVariants as operation;
 ghost use Rattle.lrc_bodies.specs.Bodies.{IsMeaningOf, Runs};
-ghost use Rattle.lrc_bodies.specs.Advancing.{IsAtEnd, EndsWith, Faces, Advances, MovesOn};
+ghost use Rattle.lrc_bodies.specs.Counting.{IsWhole};
+ghost use Rattle.lrc_bodies.specs.Advancing.{IsAtEnd, EndsWith, Faces, Advances, MovesOn, CountsOn};
 
 use crate::mark::Mark;
 use crate::remembered::VisitMeaning;
@@ -106,6 +107,8 @@ pub fn advance_body<St: Store<M = VisitMeaning>>(
     ensures gains { (c : Call) → Runs (grammar_of functions.now.plan.grammar) functions.now.plan.parts.sorts (St.state store.old) frame.old level c mark → Gains (St.state store.old) (St.state store.new) (cells_of (reach (grammar_of functions.now.plan.grammar) functions.now.plan.parts.sorts (suc level) c)) }
     ensures moves { (c : Call) → Runs (grammar_of functions.now.plan.grammar) functions.now.plan.parts.sorts (St.state store.old) frame.old level c mark → IfOk result (MovesOn (grammar_of functions.now.plan.grammar) functions.now.plan.parts.sorts functions.now.productions (St.state store.new) frame.new level c mark) }
     ensures full { (c : Call) → Runs (grammar_of functions.now.plan.grammar) functions.now.plan.parts.sorts (St.state store.old) frame.old level c mark → OnErr result (LacksOne (St.state store.new) (cells_of (reach (grammar_of functions.now.plan.grammar) functions.now.plan.parts.sorts (suc level) c))) }
+    ensures counts { (c : Call) → Runs (grammar_of functions.now.plan.grammar) functions.now.plan.parts.sorts (St.state store.old) frame.old level c mark → IfOk result (CountsOn (St.state store.old) (St.state store.new) c) }
+    ensures wholes { (c : Call) → Runs (grammar_of functions.now.plan.grammar) functions.now.plan.parts.sorts (St.state store.old) frame.old level c mark → IsWhole (grammar_of functions.now.plan.grammar) functions.now.plan.parts.sorts (St.state store.old).memo → IsWhole (grammar_of functions.now.plan.grammar) functions.now.plan.parts.sorts (St.state store.new).memo }
     ensures room { length frame.new ≡ length frame.old }
     ensures same_meaning { St.meaning store.new ≡ St.meaning store.old }
 {

@@ -6,9 +6,11 @@ ghost use Rattle.lrc_visit_meaning.specs.Visits.{plain_visit};
 ghost use Rattle.lrc_visit_meaning.specs.Demand.{reach};
 ghost use Rattle.lrc_store.specs.Standing.{Stands};
 ghost use Rattle.lrc_store.specs.Words.{Gains, Reads};
-ghost use Rattle.lrc_call_meaning.specs.Forms.{result_form};
+ghost use Rattle.lrc_call_meaning.specs.Forms.{call_form, result_form};
 ghost use Rattle.lrc_call_meaning.specs.Reached.{cells_of};
 ghost use Rattle.lrc_machine.specs.Steps.{Opens};
+ghost use Rattle.lrc_machine.specs.Counts.{IsKept, IsMissed};
+ghost use Rattle.lrc_machine.specs.declared.bodies.Opened.TheVariants as opened;
 ghost use Rattle.lrc_bodies.specs.Bodies.{Asks, Gives, Runs, HasRoom, IsMeaningOf, left_at, most_left};
 
 use crate::mark::Mark;
@@ -53,6 +55,7 @@ fn start_body<St: Store>(
     requires room { HasRoom functions.now.counts frame.old }
     requires call { (c : Call) × Asks (grammar_of functions.now.plan.grammar) functions.now.plan.parts.sorts (St.state store.old) c call.0 }
     ensures opens { (fuel : ℕ) (c : Call) → Asks (grammar_of functions.now.plan.grammar) functions.now.plan.parts.sorts (St.state store.old) c call.0 → Opens (Gives (grammar_of functions.now.plan.grammar) functions.now.plan.parts.sorts (St.state store.new) (suc fuel) c) (λ m. Runs (grammar_of functions.now.plan.grammar) functions.now.plan.parts.sorts (St.state store.new) frame.new fuel c m × (left_at functions.now.productions m ≤ most_left functions.now.productions)) (plain_visit (grammar_of functions.now.plan.grammar) functions.now.plan.parts.sorts (suc fuel) c ≡ None) result }
+    ensures no_hit { (given : Handle) → ¬ (result ≡ opened.Hit given) }
     ensures room { length frame.new ≡ length frame.old }
     ensures reads { Reads (St.state store.old) (St.state store.new) }
     ensures same_meaning { St.meaning store.new ≡ St.meaning store.old }
@@ -81,6 +84,7 @@ pub fn open_body<St: Store<M = VisitMeaning>>(
     requires call { (c : Call) × Asks (grammar_of functions.now.plan.grammar) functions.now.plan.parts.sorts (St.state store.old) c call.0 }
     ensures gains { (c : Call) → Asks (grammar_of functions.now.plan.grammar) functions.now.plan.parts.sorts (St.state store.old) c call.0 → Gains (St.state store.old) (St.state store.new) (cells_of (reach (grammar_of functions.now.plan.grammar) functions.now.plan.parts.sorts (suc level) c)) }
     ensures opens { (c : Call) → Asks (grammar_of functions.now.plan.grammar) functions.now.plan.parts.sorts (St.state store.old) c call.0 → Opens (Gives (grammar_of functions.now.plan.grammar) functions.now.plan.parts.sorts (St.state store.new) (suc level) c) (λ m. Runs (grammar_of functions.now.plan.grammar) functions.now.plan.parts.sorts (St.state store.new) frame.new level c m × (left_at functions.now.productions m ≤ most_left functions.now.productions)) (plain_visit (grammar_of functions.now.plan.grammar) functions.now.plan.parts.sorts (suc level) c ≡ None) result }
+    ensures counts { (c : Call) → Asks (grammar_of functions.now.plan.grammar) functions.now.plan.parts.sorts (St.state store.old) c call.0 → Opens (λ _. IsKept (St.state store.old) (St.state store.new)) (λ _. IsMissed (St.state store.old) (St.state store.new) (call_form c)) ((St.state store.new).memo ≡ (St.state store.old).memo) result }
     ensures room { length frame.new ≡ length frame.old }
     ensures same_meaning { St.meaning store.new ≡ St.meaning store.old }
 {

@@ -7,6 +7,7 @@ ghost use Rattle.lrc_store.specs.Words.{Gains};
 ghost use Rattle.lrc_call_meaning.specs.Reached.{cells_of};
 ghost use Rattle.lrc_eval.specs.declared.values.Val as values;
 ghost use Rattle.lrc_functions.specs.Functions.{callee_of};
+ghost use Rattle.lrc_machine.specs.Counts.{IsKept};
 ghost use Rattle.lrc_bodies.specs.Bodies.{Gives, Runs, WaitsAt, left_at};
 
 use crate::mark::Mark;
@@ -39,6 +40,7 @@ pub fn resume_body<St: Store>(
     requires body { (fuel : ℕ) × (fuel < 2 ^ 32) × (c : Call) × (d : Call) × WaitsAt (grammar_of functions.now.plan.grammar) functions.now.plan.parts.sorts (St.state store.old) frame.old fuel c mark d × Gives (grammar_of functions.now.plan.grammar) functions.now.plan.parts.sorts (St.state store.old) fuel d given.0 }
     ensures gains { (fuel : ℕ) (c d : Call) → WaitsAt (grammar_of functions.now.plan.grammar) functions.now.plan.parts.sorts (St.state store.old) frame.old fuel c mark d → Gives (grammar_of functions.now.plan.grammar) functions.now.plan.parts.sorts (St.state store.old) fuel d given.0 → Gains (St.state store.old) (St.state store.new) (cells_of (reach (grammar_of functions.now.plan.grammar) functions.now.plan.parts.sorts (suc fuel) c)) }
     ensures runs { (fuel : ℕ) → fuel < 2 ^ 32 → (c d : Call) → WaitsAt (grammar_of functions.now.plan.grammar) functions.now.plan.parts.sorts (St.state store.old) frame.old fuel c mark d → Gives (grammar_of functions.now.plan.grammar) functions.now.plan.parts.sorts (St.state store.old) fuel d given.0 → Runs (grammar_of functions.now.plan.grammar) functions.now.plan.parts.sorts (St.state store.new) frame.new fuel c result × (left_at functions.now.productions result < left_at functions.now.productions mark) }
+    ensures kept { IsKept (St.state store.old) (St.state store.new) }
     ensures room { length frame.new ≡ length frame.old }
     ensures same_meaning { St.meaning store.new ≡ St.meaning store.old }
 {

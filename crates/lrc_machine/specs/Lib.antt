@@ -1,5 +1,6 @@
 pub mod Steps
 pub mod Waits
+pub mod Counts
 pub mod Machine
 pub mod Levels
 pub mod Measure

@@ -1,6 +1,5 @@
 -- What the steps of a body answer, by cases.
 use Rattle.std.specs.Prelude.{ℕ}
-use Rattle.lrc_store.specs.declared.cells.Handle.{Handle}
 use Rattle.lrc_machine.specs.declared.bodies.Opened.{Opened}
 use Rattle.lrc_machine.specs.declared.bodies.Opened.TheVariants as o
 use Rattle.lrc_machine.specs.declared.bodies.Moved.{Moved}

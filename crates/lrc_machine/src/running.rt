@@ -1,6 +1,7 @@
 ghost use Rattle.std.specs.Prelude.{◌≡◌, ◌≤◌, ◌<◌, ◌^◌, length, IfOk, IfErr};
 ghost use Rattle.lrc_visit_meaning.specs.Values.{Call};
 ghost use Rattle.lrc_store.specs.Words.{Gains};
+ghost use Rattle.lrc_machine.specs.Counts.{IsCellOf, Counted};
 ghost use Rattle.lrc_machine.specs.Machine.{HasLevels, Stops};
 ghost use Rattle.lrc_machine.specs.Levels.{slots_of};
 
@@ -10,6 +11,9 @@ use lrc_store::{Handle, Store};
 
 /// The result of a call with so much fuel. Its body, and those of the visits that are made for it, run
 /// on levels below the fuel, of which there have to be as many. No memory is taken.
+///
+/// Where the memo is told and whole, just the calls that are made are remembered besides those before,
+/// and each of them that was not has missed once.
 ///
 /// # Errors
 ///
@@ -29,8 +33,12 @@ pub fn run<St: Store, B: Bodies<St>>(
     ensures gains { (c : Call) → B.asks bodies.now (St.state store.old) c call.0 → Gains (St.state store.old) (St.state store.new) (B.meets bodies.now fuel c) }
     ensures gives { (c : Call) → B.asks bodies.now (St.state store.old) c call.0 → IfOk result (λ given. B.gives bodies.now (St.state store.new) fuel c given.0) }
     ensures stops { (c : Call) → B.asks bodies.now (St.state store.old) c call.0 → IfErr result (Stops (St.state store.new) (B.meets bodies.now fuel c) (B.lacks bodies.now fuel c)) }
+    ensures wholes { B.whole bodies.now (St.state store.old).memo → B.whole bodies.now (St.state store.new).memo }
+    ensures counted { (c : Call) → B.asks bodies.now (St.state store.old) c call.0 → B.whole bodies.now (St.state store.old).memo → IfOk result (λ _. Counted (St.state store.old) (St.state store.new) (IsCellOf (B.form bodies.now) (B.calls bodies.now fuel c))) }
     ensures same_meaning { St.meaning store.new ≡ St.meaning store.old }
 {
+    // So the count of misses is known to fit 64 bits.
+    let _ = store.missed();
     let mut turn = Turn {
         level: fuel,
         step: Step::Open(call),

@@ -1,6 +1,7 @@
 ghost use Rattle.std.specs.Prelude.{◌≡◌, ◌≤◌, ◌<◌, ℕ, suc, length, Ok, IfOk, IfErr, OnErr};
 ghost use Rattle.lrc_visit_meaning.specs.Values.{Call};
 ghost use Rattle.lrc_store.specs.Words.{Gains, LacksOne};
+ghost use Rattle.lrc_machine.specs.Counts.{IsCellOf, Ticks};
 ghost use Rattle.lrc_machine.specs.Machine.{IsInner, HasLevels, AtTurn, Turns};
 ghost use Rattle.lrc_machine.specs.Levels.{slots_of};
 ghost use Rattle.lrc_machine.specs.declared.turns.Step.TheVariants as step;
@@ -52,8 +53,8 @@ fn opened<St: Store, B: Bodies<St>>(
     inner: Handle,
 ) -> Result<Turn<B::Mark>, Stop>
     requires meaning { B.means bodies.now (St.meaning store.old) }
-    requires turn { (fuel : ℕ) × (root : Call) × AtTurn (B.asks bodies.now) (B.gives bodies.now) (B.runs bodies.now) (B.waits bodies.now) (B.fits bodies.now) (St.state store.old) (slots_of levels.old) fuel root level (step.Open inner) }
-    ensures turns { (fuel : ℕ) (root : Call) → AtTurn (B.asks bodies.now) (B.gives bodies.now) (B.runs bodies.now) (B.waits bodies.now) (B.fits bodies.now) (St.state store.old) (slots_of levels.old) fuel root level (step.Open inner) → Turns (AtTurn (B.asks bodies.now) (B.gives bodies.now) (B.runs bodies.now) (B.waits bodies.now) (B.fits bodies.now) (St.state store.new) (slots_of levels.new) fuel root) (HasLevels (B.fits bodies.now) (slots_of levels.new) fuel) (St.state store.old) (St.state store.new) (B.meets bodies.now fuel root) (B.lacks bodies.now fuel root) result }
+    requires turn { (fuel : ℕ) × (root : Call) × AtTurn (B.form bodies.now) (B.asks bodies.now) (B.gives bodies.now) (B.runs bodies.now) (B.waits bodies.now) (B.fits bodies.now) (St.state store.old) (slots_of levels.old) fuel root level (step.Open inner) }
+    ensures turns { (fuel : ℕ) (root : Call) → AtTurn (B.form bodies.now) (B.asks bodies.now) (B.gives bodies.now) (B.runs bodies.now) (B.waits bodies.now) (B.fits bodies.now) (St.state store.old) (slots_of levels.old) fuel root level (step.Open inner) → Turns (AtTurn (B.form bodies.now) (B.asks bodies.now) (B.gives bodies.now) (B.runs bodies.now) (B.waits bodies.now) (B.fits bodies.now) (St.state store.new) (slots_of levels.new) fuel root) (Ticks (IsCellOf (B.form bodies.now) (B.calls bodies.now fuel root)) fuel (St.state store.old) (St.state store.new) level) (HasLevels (B.fits bodies.now) (slots_of levels.new) fuel) (B.whole bodies.now) (St.state store.old) (St.state store.new) (B.meets bodies.now fuel root) (B.lacks bodies.now fuel root) result }
     ensures falls { IfOk result (λ turn. measure (B.left bodies.now) (B.most bodies.now) levels.new.marks.items turn.level turn.step < measure (B.left bodies.now) (B.most bodies.now) levels.old.marks.items level (step.Open inner)) }
     ensures same_meaning { St.meaning store.new ≡ St.meaning store.old }
 {
@@ -83,8 +84,8 @@ fn advanced<St: Store, B: Bodies<St>>(
     mark: B::Mark,
 ) -> Result<Turn<B::Mark>, Stop>
     requires meaning { B.means bodies.now (St.meaning store.old) }
-    requires turn { (fuel : ℕ) × (root : Call) × AtTurn (B.asks bodies.now) (B.gives bodies.now) (B.runs bodies.now) (B.waits bodies.now) (B.fits bodies.now) (St.state store.old) (slots_of levels.old) fuel root level (step.Go mark) }
-    ensures turns { (fuel : ℕ) (root : Call) → AtTurn (B.asks bodies.now) (B.gives bodies.now) (B.runs bodies.now) (B.waits bodies.now) (B.fits bodies.now) (St.state store.old) (slots_of levels.old) fuel root level (step.Go mark) → Turns (AtTurn (B.asks bodies.now) (B.gives bodies.now) (B.runs bodies.now) (B.waits bodies.now) (B.fits bodies.now) (St.state store.new) (slots_of levels.new) fuel root) (HasLevels (B.fits bodies.now) (slots_of levels.new) fuel) (St.state store.old) (St.state store.new) (B.meets bodies.now fuel root) (B.lacks bodies.now fuel root) result }
+    requires turn { (fuel : ℕ) × (root : Call) × AtTurn (B.form bodies.now) (B.asks bodies.now) (B.gives bodies.now) (B.runs bodies.now) (B.waits bodies.now) (B.fits bodies.now) (St.state store.old) (slots_of levels.old) fuel root level (step.Go mark) }
+    ensures turns { (fuel : ℕ) (root : Call) → AtTurn (B.form bodies.now) (B.asks bodies.now) (B.gives bodies.now) (B.runs bodies.now) (B.waits bodies.now) (B.fits bodies.now) (St.state store.old) (slots_of levels.old) fuel root level (step.Go mark) → Turns (AtTurn (B.form bodies.now) (B.asks bodies.now) (B.gives bodies.now) (B.runs bodies.now) (B.waits bodies.now) (B.fits bodies.now) (St.state store.new) (slots_of levels.new) fuel root) (Ticks (IsCellOf (B.form bodies.now) (B.calls bodies.now fuel root)) fuel (St.state store.old) (St.state store.new) level) (HasLevels (B.fits bodies.now) (slots_of levels.new) fuel) (B.whole bodies.now) (St.state store.old) (St.state store.new) (B.meets bodies.now fuel root) (B.lacks bodies.now fuel root) result }
     ensures falls { IfOk result (λ turn. measure (B.left bodies.now) (B.most bodies.now) levels.new.marks.items turn.level turn.step < measure (B.left bodies.now) (B.most bodies.now) levels.old.marks.items level (step.Go mark)) }
     ensures same_meaning { St.meaning store.new ≡ St.meaning store.old }
 {
@@ -122,8 +123,8 @@ fn resumed<St: Store, B: Bodies<St>>(
     given: Handle,
 ) -> Turn<B::Mark>
     requires meaning { B.means bodies.now (St.meaning store.old) }
-    requires turn { (fuel : ℕ) × (root : Call) × (level < fuel) × AtTurn (B.asks bodies.now) (B.gives bodies.now) (B.runs bodies.now) (B.waits bodies.now) (B.fits bodies.now) (St.state store.old) (slots_of levels.old) fuel root level (step.Answer given) }
-    ensures turns { (fuel : ℕ) (root : Call) → level < fuel → AtTurn (B.asks bodies.now) (B.gives bodies.now) (B.runs bodies.now) (B.waits bodies.now) (B.fits bodies.now) (St.state store.old) (slots_of levels.old) fuel root level (step.Answer given) → Turns (AtTurn (B.asks bodies.now) (B.gives bodies.now) (B.runs bodies.now) (B.waits bodies.now) (B.fits bodies.now) (St.state store.new) (slots_of levels.new) fuel root) (HasLevels (B.fits bodies.now) (slots_of levels.new) fuel) (St.state store.old) (St.state store.new) (B.meets bodies.now fuel root) (B.lacks bodies.now fuel root) (Ok result) }
+    requires turn { (fuel : ℕ) × (root : Call) × (level < fuel) × AtTurn (B.form bodies.now) (B.asks bodies.now) (B.gives bodies.now) (B.runs bodies.now) (B.waits bodies.now) (B.fits bodies.now) (St.state store.old) (slots_of levels.old) fuel root level (step.Answer given) }
+    ensures turns { (fuel : ℕ) (root : Call) → level < fuel → AtTurn (B.form bodies.now) (B.asks bodies.now) (B.gives bodies.now) (B.runs bodies.now) (B.waits bodies.now) (B.fits bodies.now) (St.state store.old) (slots_of levels.old) fuel root level (step.Answer given) → Turns (AtTurn (B.form bodies.now) (B.asks bodies.now) (B.gives bodies.now) (B.runs bodies.now) (B.waits bodies.now) (B.fits bodies.now) (St.state store.new) (slots_of levels.new) fuel root) (Ticks (IsCellOf (B.form bodies.now) (B.calls bodies.now fuel root)) fuel (St.state store.old) (St.state store.new) level) (HasLevels (B.fits bodies.now) (slots_of levels.new) fuel) (B.whole bodies.now) (St.state store.old) (St.state store.new) (B.meets bodies.now fuel root) (B.lacks bodies.now fuel root) (Ok result) }
     ensures falls { measure (B.left bodies.now) (B.most bodies.now) levels.new.marks.items result.level result.step < measure (B.left bodies.now) (B.most bodies.now) levels.old.marks.items level (step.Answer given) }
     ensures same_meaning { St.meaning store.new ≡ St.meaning store.old }
 {
@@ -144,8 +145,8 @@ pub(crate) fn next<St: Store, B: Bodies<St>>(
     turn: Turn<B::Mark>,
 ) -> Result<Turn<B::Mark>, Stop>
     requires meaning { B.means bodies.now (St.meaning store.old) }
-    requires turn { (fuel : ℕ) × (root : Call) × IsInner fuel turn.level turn.step × AtTurn (B.asks bodies.now) (B.gives bodies.now) (B.runs bodies.now) (B.waits bodies.now) (B.fits bodies.now) (St.state store.old) (slots_of levels.old) fuel root turn.level turn.step }
-    ensures turns { (fuel : ℕ) (root : Call) → IsInner fuel turn.level turn.step → AtTurn (B.asks bodies.now) (B.gives bodies.now) (B.runs bodies.now) (B.waits bodies.now) (B.fits bodies.now) (St.state store.old) (slots_of levels.old) fuel root turn.level turn.step → Turns (AtTurn (B.asks bodies.now) (B.gives bodies.now) (B.runs bodies.now) (B.waits bodies.now) (B.fits bodies.now) (St.state store.new) (slots_of levels.new) fuel root) (HasLevels (B.fits bodies.now) (slots_of levels.new) fuel) (St.state store.old) (St.state store.new) (B.meets bodies.now fuel root) (B.lacks bodies.now fuel root) result }
+    requires turn { (fuel : ℕ) × (root : Call) × IsInner fuel turn.level turn.step × AtTurn (B.form bodies.now) (B.asks bodies.now) (B.gives bodies.now) (B.runs bodies.now) (B.waits bodies.now) (B.fits bodies.now) (St.state store.old) (slots_of levels.old) fuel root turn.level turn.step }
+    ensures turns { (fuel : ℕ) (root : Call) → IsInner fuel turn.level turn.step → AtTurn (B.form bodies.now) (B.asks bodies.now) (B.gives bodies.now) (B.runs bodies.now) (B.waits bodies.now) (B.fits bodies.now) (St.state store.old) (slots_of levels.old) fuel root turn.level turn.step → Turns (AtTurn (B.form bodies.now) (B.asks bodies.now) (B.gives bodies.now) (B.runs bodies.now) (B.waits bodies.now) (B.fits bodies.now) (St.state store.new) (slots_of levels.new) fuel root) (Ticks (IsCellOf (B.form bodies.now) (B.calls bodies.now fuel root)) fuel (St.state store.old) (St.state store.new) turn.level) (HasLevels (B.fits bodies.now) (slots_of levels.new) fuel) (B.whole bodies.now) (St.state store.old) (St.state store.new) (B.meets bodies.now fuel root) (B.lacks bodies.now fuel root) result }
     ensures falls { IfOk result (λ next. measure (B.left bodies.now) (B.most bodies.now) levels.new.marks.items next.level next.step < measure (B.left bodies.now) (B.most bodies.now) levels.old.marks.items turn.level turn.step) }
     ensures same_meaning { St.meaning store.new ≡ St.meaning store.old }
 {

@@ -1,11 +1,11 @@
 -- What a put answers, from what its calls do: those that read, the one that puts the term, and the one that builds the whole.
-use Rattle.std.proofs.Common.{◌≡◌, ◌≢◌, ℕ, List, Option, Some, None, refl, sym, ap, ◌∙◌, subst}
+use Rattle.std.proofs.Common.{◌≡◌, ◌≢◌, ℕ, List, Option, Some, sym, ap, ◌∙◌, subst}
 use Rattle.std.proofs.lemmas.Option.{same_Some}
 use Rattle.std.specs.Prelude.{Result, Ok, Err, IsErr, IsErrAnd}
 use Rattle.lrc_base.specs.declared.grammar.Kind.{Kind}
 use Rattle.lrc_base.specs.declared.grammar.Production.{Production}
 use Rattle.lrc_meaning.specs.Tree.{Tree, kind_of, at_place, replaced}
-use Rattle.lrc_store.specs.Cells.{CellTree, parts, IsWithin}
+use Rattle.lrc_store.specs.Cells.{parts, IsWithin}
 use Rattle.lrc_store.specs.Standing.{Standing}
 use Rattle.lrc_store.specs.Words.{Reads}
 use Rattle.lrc_store.specs.declared.cells.Handle.{Handle}
@@ -41,11 +41,7 @@ module _ (s t u : Standing) (whole new old : Tree) (steps : List ℕ) (there : a
   whole-over term answer b d = builds-then s t u (tree_cell new) (tree_cell (replaced whole steps new)) answer new-within b.adds d
 
 module _ (prods : List Production) (whole : Tree) (steps : List ℕ) (new : Tree) (kind : Kind) where
-  -- ---- the store is only read
-
-  pub bad-path : (s t : Standing) → Reads s t → at_place whole steps ≡ None → Replaces prods s t whole steps new kind (Err fault.BadPath)
-  bad-path s t reads none = record { adds = reads-adds s t (parts (tree_cell (replaced whole steps new))) reads; answers = (none, reads) }
-
+  -- what stands at the place is of another kind
   pub wrong-sort : (s t : Standing) (old : Tree) (found : Kind) → Reads s t → at_place whole steps ≡ Some old → kind_of prods old ≡ Some found → found ≢ kind →
       Replaces prods s t whole steps new kind (Err fault.WrongSort)
   wrong-sort s t old found reads there is differs = record {
@@ -53,7 +49,7 @@ module _ (prods : List Production) (whole : Tree) (steps : List ℕ) (new : Tree
     answers = (record { old = old; there = there; other = λ e. differs (same_Some found kind (sym is ∙ e)) }, reads);
   }
 
-  -- ---- the place is there, and of the kind
+  -- the place is there, and of the kind
 
   module _ (s t u : Standing) (place : IsPlace prods whole steps kind) (reads : Reads s t) where
     -- the one fault that want of a row turns into

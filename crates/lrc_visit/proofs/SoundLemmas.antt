@@ -1,12 +1,12 @@
 -- The visit sequences of a grammar with an order are sound, where that it has one is known and no order is at hand: what the
 -- order alone tells is decided by a test.
-use Rattle.std.proofs.Common.{◌≡◌, ℕ, suc, ◌+◌, ◌<◌, ◌≤◌, Bool, true, false, IsTrue, List, [], ◌++◌, map, All, get_or, Contains, refl, sym, ap, ◌∙◌, subst, arith}
+use Rattle.std.proofs.Common.{◌≡◌, ℕ, ◌+◌, ◌<◌, ◌≤◌, Bool, true, false, IsTrue, List, ◌++◌, map, get_or, Contains, refl, sym, ap, ◌∙◌, subst, arith}
 use Rattle.std.specs.Prelude.{flat_map}
 use Rattle.std.specs.List.{range_with_len}
 use Rattle.std.proofs.Math.Logic.{∥∥₁_elim}
 use Rattle.std.proofs.lemmas.Bool.{true≢false}
 use Rattle.lrc_base.specs.declared.grammar.Production.{Production}
-use Rattle.lrc_meaning.specs.Grammar.{Grammar, occurrences_of, is_well_formed}
+use Rattle.lrc_meaning.specs.Grammar.{Grammar, is_well_formed}
 use Rattle.lrc_order_meaning.specs.Ordered.{Partitions, HasOrder}
 use Rattle.lrc_order_meaning.proofs.MemberLemmas.{member_map, member_of_map, member_flat, member_of_flat, member_range, member_of_range}
 use Rattle.lrc_plan_meaning.specs.declared.Action.{Action}
@@ -14,15 +14,20 @@ use Rattle.lrc_plan_meaning.specs.declared.Action.TheVariants as a
 use Rattle.lrc_plan_meaning.specs.declared.Bound.{Bound}
 use Rattle.lrc_plan_meaning.specs.declared.Bound.TheVariants as b
 use Rattle.lrc_plan_meaning.specs.Items.{is_among, visits_of, makes, values_of_visit}
-use Rattle.lrc_plan_meaning.specs.Sequences.{is_defined, segment}
-use Rattle.lrc_plan_meaning.specs.Sound.{handed_in, IsDone, IsVisitThere, GivesAll, IsComplete, IsSound}
+use Rattle.lrc_plan_meaning.specs.Sequences.{segment}
+use Rattle.lrc_plan_meaning.specs.Sound.{handed_in, IsDone, GivesAll, IsComplete, IsSound}
 use Rattle.lrc_plan_meaning.proofs.ItemLemmas.{contained, among}
 use Rattle.lrc_plan.proofs.ListedLemmas.{all_ready}
 use Rattle.lrc_plan.proofs.CompleteLemmas.{done_own}
 use Rattle.lrc_plan.proofs.OnceLemmas.{plan_once}
 use Rattle.lrc_plan.proofs.ApartLemmas.{plan_fresh}
 use Rattle.lrc_plan.proofs.SoundLemmas.{ordered_is_sound}
-use Rattle.lrc_bodies.specs.Bodies.{AllSound}
+use Rattle.lrc_grammar.specs.Grammar.{grammar_of}
+use Rattle.lrc_visit_meaning.specs.Values.{Call}
+use Rattle.lrc_store.specs.Standing.{Standing}
+use Rattle.lrc_functions.specs.declared.functions.Functions.{Functions}
+use Rattle.lrc_bodies.specs.Bodies.{AllSound, Asks}
+use Rattle.lrc_visit.specs.Asked.{IsAsked}
 
 -- a test that an order makes true is true where there is some order
 decided : {A : Type 0} → ∥ A ∥₁ → (t : Bool) → (A → t ≡ true) → t ≡ true
@@ -32,11 +37,11 @@ decided some false made =
     absurd (∥∥₁_elim some no_two (λ one. true≢false (sym (made one))))
 
 -- an action as an item, so that a test of items serves for actions
-sign : Action → Bound
+abbrev sign : Action → Bound
 sign (a.Eval o) = b.Value o
 sign (a.Visit s v) = b.Kid s v 0
 
-unsign : Bound → Action
+abbrev unsign : Bound → Action
 unsign (b.Value o) = a.Eval o
 unsign (b.Kid s i j) = a.Visit s i
 
@@ -102,3 +107,12 @@ module _ (g : Grammar) (found : Partitions) (some : ∥ HasOrder g found ∥₁)
 
   pub sound_by_order : AllSound g found.sorts
   sound_by_order = sound
+
+-- who brings a handle of a spelled call asks for it as the bodies want it
+pub can_ask : (functions : Functions) (s : Standing) (c : Call) (handle : ℕ) → IsAsked s c handle
+    → Asks (grammar_of functions.plan.grammar) functions.plan.parts.sorts s c handle
+can_ask functions s c handle asked = record {
+  sound = sound_by_order (grammar_of functions.plan.grammar) functions.plan.parts functions.plan.ordered;
+  spelled = asked.spelled;
+  stands = asked.stands;
+}

@@ -8,6 +8,9 @@ ghost use Rattle.lrc_call_meaning.specs.Reached.{cells_of};
 ghost use Rattle.lrc_machine.specs.Machine.{HasLevels};
 ghost use Rattle.lrc_machine.specs.Levels.{slots_of};
 ghost use Rattle.lrc_visit.specs.declared.visits.VisitFault.TheVariants as fault;
+ghost use Rattle.lrc_call_meaning.specs.Forms.{call_form};
+ghost use Rattle.lrc_machine.specs.Counts.{IsCellOf, Counted};
+ghost use Rattle.lrc_bodies.specs.Counting.{MeetsCall, IsWhole};
 ghost use Rattle.lrc_bodies.specs.Bodies.{Gives, HasRoom, IsMeaningOf};
 ghost use Rattle.lrc_visit.specs.Asked.{IsAsked};
 
@@ -28,7 +31,10 @@ impl<'a, St: Store<M = VisitMeaning>> Bodies<St> for Visits<'a> {
     ghost use Rattle.lrc_visit_meaning.specs.Visits as plain;
     ghost use Rattle.lrc_visit_meaning.specs.Demand as met;
     ghost use Rattle.lrc_call_meaning.specs.Reached as cells;
+    ghost use Rattle.lrc_call_meaning.specs.Forms as forms;
     ghost use Rattle.lrc_bodies.specs.Bodies as bodies;
+    ghost use Rattle.lrc_bodies.specs.Counting as counting;
+    ghost use Rattle.lrc_bodies.proofs.MetCellLemmas as reached;
     ghost use Rattle.lrc_bodies.proofs.LoopLemmas as laws;
     ghost use Rattle.lrc_bodies.proofs.HitLemmas as fuel;
     ghost use Rattle.std.specs.Prelude.{◌≡◌, None};
@@ -44,6 +50,14 @@ impl<'a, St: Store<M = VisitMeaning>> Bodies<St> for Visits<'a> {
     ghost lacks = { λ b n c. plain.plain_visit (grammar_of b.functions.now.plan.grammar) b.functions.now.plan.parts.sorts n c ≡ None };
 
     ghost meets = { λ b n c. cells.cells_of (met.reach (grammar_of b.functions.now.plan.grammar) b.functions.now.plan.parts.sorts n c) };
+
+    ghost form = { λ b c. forms.call_form c };
+
+    ghost calls = { λ b n c d. counting.MeetsCall (grammar_of b.functions.now.plan.grammar) b.functions.now.plan.parts.sorts n c d };
+
+    ghost whole = { λ b memo. counting.IsWhole (grammar_of b.functions.now.plan.grammar) b.functions.now.plan.parts.sorts memo };
+
+    ghost height = { λ b n c h. laws.HasHeight (grammar_of b.functions.now.plan.grammar) b.functions.now.plan.parts.sorts n c h };
 
     ghost runs = { λ b s f n c m. bodies.Runs (grammar_of b.functions.now.plan.grammar) b.functions.now.plan.parts.sorts s f.items n c m };
 
@@ -88,7 +102,19 @@ impl<'a, St: Store<M = VisitMeaning>> Bodies<St> for Visits<'a> {
 
     ghost within = { λ b s f n c m d w. laws.meets_more (grammar_of b.functions.now.plan.grammar) b.functions.now.plan.parts.sorts s f.items n c m d w };
 
-    ghost lasts = { λ b s t f n c m d w last. laws.waits_on (grammar_of b.functions.now.plan.grammar) b.functions.now.plan.parts.sorts s f.items n c m d w t last };
+    ghost lasts = { λ b s t f n c m d w last keeps. laws.waits_on (grammar_of b.functions.now.plan.grammar) b.functions.now.plan.parts.sorts s f.items n c m d w t last keeps };
+
+    ghost own = { λ b n c. reached.call_reached (grammar_of b.functions.now.plan.grammar) b.functions.now.plan.parts.sorts n c };
+
+    ghost calls_within = { λ b s f n c m d w e made. laws.calls_more (grammar_of b.functions.now.plan.grammar) b.functions.now.plan.parts.sorts s f.items n c m d w e made };
+
+    ghost sure = { λ b s n c handle gives known d made. laws.gives_sure (grammar_of b.functions.now.plan.grammar) b.functions.now.plan.parts.sorts s n c handle gives known d made };
+
+    ghost one_height = { λ b s n c handle gives. laws.one_height (grammar_of b.functions.now.plan.grammar) b.functions.now.plan.parts.sorts s n c handle gives };
+
+    ghost lower = { λ b s f n c m d w h high. laws.waits_lower (grammar_of b.functions.now.plan.grammar) b.functions.now.plan.parts.sorts s f.items n c m d w h high };
+
+    ghost same_height = { λ b s t f g n k c m d e o w runs same le h high. laws.same_height (grammar_of b.functions.now.plan.grammar) b.functions.now.plan.parts.sorts s f.items n c m d w t g.items k e o runs same le h high };
 }
 
 /// Why a call has no answer.
@@ -102,6 +128,10 @@ pub enum VisitFault {
 
 /// The result of a call with so much fuel, over a store whose remembered calls mean those of the plan.
 /// It takes no memory, and the machine's stack does not grow with the tree.
+///
+/// A memo that is told stays whole: with each call that is remembered those are that its visit makes.
+/// Where it is, just the calls that are made are remembered besides those before, and each of them that
+/// was not is missed once.
 ///
 /// # Errors
 ///
@@ -122,6 +152,8 @@ pub fn visit<St: Store<M = VisitMeaning>>(
     ensures full { (c : Call) → IsAsked (St.state store.old) c call.0 → result ≡ Err fault.Full → LacksOne (St.state store.new) (cells_of (reach (grammar_of functions.now.plan.grammar) functions.now.plan.parts.sorts fuel c)) }
     ensures too_deep { (c : Call) → IsAsked (St.state store.old) c call.0 → result ≡ Err fault.TooDeep → plain_visit (grammar_of functions.now.plan.grammar) functions.now.plan.parts.sorts fuel c ≡ None }
     ensures levels { HasLevels (λ frame. HasRoom functions.now.counts frame.items) (slots_of frames.new.levels) fuel }
+    ensures whole { IsWhole (grammar_of functions.now.plan.grammar) functions.now.plan.parts.sorts (St.state store.old).memo → IsWhole (grammar_of functions.now.plan.grammar) functions.now.plan.parts.sorts (St.state store.new).memo }
+    ensures counted { (c : Call) → IsAsked (St.state store.old) c call.0 → IsWhole (grammar_of functions.now.plan.grammar) functions.now.plan.parts.sorts (St.state store.old).memo → IfOk result (λ _. Counted (St.state store.old) (St.state store.new) (IsCellOf call_form (MeetsCall (grammar_of functions.now.plan.grammar) functions.now.plan.parts.sorts fuel c))) }
     ensures same_meaning { St.meaning store.new ≡ St.meaning store.old }
 {
     let visits = Visits { functions };

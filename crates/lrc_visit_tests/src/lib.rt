@@ -16,3 +16,5 @@ mod handles;
 mod kinds;
 #[cfg(test)]
 mod nodes;
+#[cfg(test)]
+mod putting;

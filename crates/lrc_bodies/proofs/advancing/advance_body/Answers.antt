@@ -132,3 +132,66 @@ returns-in-Visit-clause-full g c call runs =
     c.function-function.result.now c.function-function.ensures c.as_slice-operations.result.now c.as_slice-operations.ensures
     c.as_slice-operations.type_inv.0 c.if-operations-mark.false c.index-operations-mark.result _ c.index-operations-mark.is c.in-Visit.is in
     (c.visit_next.ensures.advances c.args.level call faces).full
+
+pub returns-in_err-end_body-clause-wholes : goal.returns-in_err-end_body-clause-wholes
+returns-in_err-end_body-clause-wholes g c call runs =
+    let f = c.args.functions.now in
+    let gr = grammar_of f.plan.grammar in
+    let end = at_end gr f.plan.parts f.productions f.made (g.St.Store.state c.args.store.now) c.args.frame.now c.args.level call c.args.mark runs
+    c.function-function.result.now c.function-function.ensures c.as_slice-operations.result.now c.as_slice-operations.ensures
+    f.plan.ordered f.plan.grammar.few (g.St.Store.meaning c.args.store.now) c.requires.meaning.0 c.requires.meaning.1 c.if-operations-mark.true c.requires.low in
+    (c.in_err-end_body.ensures.ends gr f.plan.parts.sorts c.args.level call end).wholes
+
+pub returns-then-operations-mark-clause-counts : goal.returns-then-operations-mark-clause-counts
+returns-then-operations-mark-clause-counts g c call runs =
+    let f = c.args.functions.now in
+    let gr = grammar_of f.plan.grammar in
+    let end = at_end gr f.plan.parts f.productions f.made (g.St.Store.state c.args.store.now) c.args.frame.now c.args.level call c.args.mark runs
+    c.function-function.result.now c.function-function.ensures c.as_slice-operations.result.now c.as_slice-operations.ensures
+    f.plan.ordered f.plan.grammar.few (g.St.Store.meaning c.args.store.now) c.requires.meaning.0 c.requires.meaning.1 c.if-operations-mark.true c.requires.low in
+    (c.in_ok-end_body.ensures.ends gr f.plan.parts.sorts c.args.level call end).counts
+
+pub returns-then-operations-mark-clause-wholes : goal.returns-then-operations-mark-clause-wholes
+returns-then-operations-mark-clause-wholes g c call runs =
+    let f = c.args.functions.now in
+    let gr = grammar_of f.plan.grammar in
+    let end = at_end gr f.plan.parts f.productions f.made (g.St.Store.state c.args.store.now) c.args.frame.now c.args.level call c.args.mark runs
+    c.function-function.result.now c.function-function.ensures c.as_slice-operations.result.now c.as_slice-operations.ensures
+    f.plan.ordered f.plan.grammar.few (g.St.Store.meaning c.args.store.now) c.requires.meaning.0 c.requires.meaning.1 c.if-operations-mark.true c.requires.low in
+    (c.in_ok-end_body.ensures.ends gr f.plan.parts.sorts c.args.level call end).wholes
+
+pub returns-in-Eval-clause-counts : goal.returns-in-Eval-clause-counts
+returns-in-Eval-clause-counts g c call runs =
+    let f = c.args.functions.now in
+    let gr = grammar_of f.plan.grammar in
+    let faces = at_operation gr f.plan.parts f.productions f.made (g.St.Store.state c.args.store.now) c.args.frame.now c.args.level call c.args.mark runs
+    c.function-function.result.now c.function-function.ensures c.as_slice-operations.result.now c.as_slice-operations.ensures
+    c.as_slice-operations.type_inv.0 c.if-operations-mark.false c.index-operations-mark.result _ c.index-operations-mark.is c.in-Eval.is in
+    (c.evaluate_next.ensures.advances c.args.level call faces).counts
+
+pub returns-in-Eval-clause-wholes : goal.returns-in-Eval-clause-wholes
+returns-in-Eval-clause-wholes g c call runs =
+    let f = c.args.functions.now in
+    let gr = grammar_of f.plan.grammar in
+    let faces = at_operation gr f.plan.parts f.productions f.made (g.St.Store.state c.args.store.now) c.args.frame.now c.args.level call c.args.mark runs
+    c.function-function.result.now c.function-function.ensures c.as_slice-operations.result.now c.as_slice-operations.ensures
+    c.as_slice-operations.type_inv.0 c.if-operations-mark.false c.index-operations-mark.result _ c.index-operations-mark.is c.in-Eval.is in
+    (c.evaluate_next.ensures.advances c.args.level call faces).wholes
+
+pub returns-in-Visit-clause-counts : goal.returns-in-Visit-clause-counts
+returns-in-Visit-clause-counts g c call runs =
+    let f = c.args.functions.now in
+    let gr = grammar_of f.plan.grammar in
+    let faces = at_operation gr f.plan.parts f.productions f.made (g.St.Store.state c.args.store.now) c.args.frame.now c.args.level call c.args.mark runs
+    c.function-function.result.now c.function-function.ensures c.as_slice-operations.result.now c.as_slice-operations.ensures
+    c.as_slice-operations.type_inv.0 c.if-operations-mark.false c.index-operations-mark.result _ c.index-operations-mark.is c.in-Visit.is in
+    (c.visit_next.ensures.advances c.args.level call faces).counts
+
+pub returns-in-Visit-clause-wholes : goal.returns-in-Visit-clause-wholes
+returns-in-Visit-clause-wholes g c call runs =
+    let f = c.args.functions.now in
+    let gr = grammar_of f.plan.grammar in
+    let faces = at_operation gr f.plan.parts f.productions f.made (g.St.Store.state c.args.store.now) c.args.frame.now c.args.level call c.args.mark runs
+    c.function-function.result.now c.function-function.ensures c.as_slice-operations.result.now c.as_slice-operations.ensures
+    c.as_slice-operations.type_inv.0 c.if-operations-mark.false c.index-operations-mark.result _ c.index-operations-mark.is c.in-Visit.is in
+    (c.visit_next.ensures.advances c.args.level call faces).wholes

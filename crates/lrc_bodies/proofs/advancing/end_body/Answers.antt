@@ -61,4 +61,4 @@ returns-clause-ends g c gr parts fuel call end =
     let meaning = g.St.Store.meaning c.args.store.now in
     body_ended gr parts s c.args.frame.now fuel call c.args.mark c.args.function.now meaning end (g.St.Store.state c.finish.new.store) c.in_ok-outcome.outcome c.published.ensures.sound
     (c.in_ok-outcome.ensures.ends _ _ _ _ _ (can_end gr parts s c.args.frame.now fuel call c.args.mark c.args.function.now meaning end))
-    (g.St.Store.state c.remember.new.self) c.remember.ensures.stays
+    (g.St.Store.state c.remember.new.self) c.remember.ensures.stays c.remember.ensures.same_missed c.remember.ensures.gains

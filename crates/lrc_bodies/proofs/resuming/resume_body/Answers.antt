@@ -38,7 +38,7 @@ returns-clause-runs g c fuel fits call d w gives =
     let takes = c.take_result-height.ensures.takes grammar plan.parts.sorts mark.body w.run w.symbol w.visit_there gives.outcome from in
     let highest : c.max.result ≡ max mark.height c.take_result-height.result = search rules in
     let next : Mark = record { call = mark.call; body = mark.body; at = mark.at + 1; height = c.max.result } in (
-      goes_on grammar plan.parts.sorts s c.args.frame.now fuel call mark d w c.args.given.0 gives t c.take_result-height.new.frame c.take_result-height.result next c.take_result-height.ensures.reads.stays.lasts fits takes
+      goes_on grammar plan.parts.sorts s c.args.frame.now fuel call mark d w c.args.given.0 gives t c.take_result-height.new.frame c.take_result-height.result next c.take_result-height.ensures.reads.stays.lasts c.take_result-height.ensures.reads.memo fits takes
           (ap (λ n. record { call = mark.call; body = mark.body; at = mark.at + 1; height = n }) highest),
       left_falls grammar plan.parts.sorts s c.args.frame.now fuel call mark d w functions.productions next functions.made refl refl,
     )

@@ -1,4 +1,4 @@
-use Rattle.std.proofs.Common.{◌≡◌, ℕ, suc, ◌+◌, ◌-◌, ◌*◌, ◌<◌, ◌≤◌, length, drop, slice_set, ap, subst, sym, refl, ◌∙◌, arith}
+use Rattle.std.proofs.Common.{◌≡◌, suc, ◌+◌, ◌*◌, ◌<◌, length, drop, slice_set, subst, arith}
 use Rattle.lrc_machine.specs.Measure.{times, weigh, base, digits}
 use Rattle.lrc_machine.proofs.WaitLemmas.{frame_is, set_here}
 use Rattle.lrc_machine.proofs.MoveLemmas.{of_went, of_asked, of_ended, of_deep}
@@ -12,10 +12,10 @@ returns-in-Err-clause-turns g c fuel root turn =
     let body = turn.turn.2 in
     let same : body.frame ≡ c.index_mut-frame.result.now = frame_is c.args.levels.now.frames.items c.args.level body.frame c.index_mut-frame.result.now body.has_frame c.index_mut-frame.ensures.value in
     let running = subst (λ f. g.B.Bodies.runs b (g.St.Store.state c.args.store.now) f c.args.level turn.turn.0 c.args.mark) same body.runs_at in
-    got_full (g.B.Bodies.asks b) (g.B.Bodies.gives b) (g.B.Bodies.runs b) (g.B.Bodies.waits b) (g.B.Bodies.fits b) (g.B.Bodies.lacks b) (g.B.Bodies.meets b)
+    got_full (g.B.Bodies.form b) (g.B.Bodies.asks b) (g.B.Bodies.gives b) (g.B.Bodies.runs b) (g.B.Bodies.waits b) (g.B.Bodies.fits b) (g.B.Bodies.lacks b) (g.B.Bodies.meets b) (g.B.Bodies.calls b) (g.B.Bodies.whole b)
     (g.met.B.Bodies.lasts b) (g.met.B.Bodies.deep b) (g.met.B.Bodies.within b) fuel root c.args.levels.now.frames.items c.args.levels.now.marks.items
     (g.St.Store.state c.args.store.now) (g.St.Store.state c.advance.new.store) c.args.level c.args.mark c.advance.new.frame c.advance.ensures.room turn
-    (c.advance.ensures.gains turn.turn.0 running) (c.in-Err.ensures.full turn.turn.0 running)
+    (c.advance.ensures.gains turn.turn.0 running) (c.advance.ensures.wholes turn.turn.0 running) (c.in-Err.ensures.full turn.turn.0 running)
 
 pub returns-in-Went-clause-turns : goal.returns-in-Went-clause-turns
 returns-in-Went-clause-turns g c fuel root turn =
@@ -24,10 +24,10 @@ returns-in-Went-clause-turns g c fuel root turn =
     let same : body.frame ≡ c.index_mut-frame.result.now = frame_is c.args.levels.now.frames.items c.args.level body.frame c.index_mut-frame.result.now body.has_frame c.index_mut-frame.ensures.value in
     let running = subst (λ f. g.B.Bodies.runs b (g.St.Store.state c.args.store.now) f c.args.level turn.turn.0 c.args.mark) same body.runs_at in
     let moves = of_went _ _ _ _ c.in-Ok.moved c.in-Went.next c.in-Went.is (c.in-Ok.ensures.moves turn.turn.0 running) in
-    went_on (g.B.Bodies.asks b) (g.B.Bodies.gives b) (g.B.Bodies.runs b) (g.B.Bodies.waits b) (g.B.Bodies.fits b) (g.B.Bodies.lacks b) (g.B.Bodies.meets b)
+    went_on (g.B.Bodies.form b) (g.B.Bodies.asks b) (g.B.Bodies.gives b) (g.B.Bodies.runs b) (g.B.Bodies.waits b) (g.B.Bodies.fits b) (g.B.Bodies.lacks b) (g.B.Bodies.meets b) (g.B.Bodies.calls b) (g.B.Bodies.whole b)
     (g.met.B.Bodies.lasts b) (g.met.B.Bodies.deep b) (g.met.B.Bodies.within b) fuel root c.args.levels.now.frames.items c.args.levels.now.marks.items
     (g.St.Store.state c.args.store.now) (g.St.Store.state c.advance.new.store) c.args.level c.args.mark c.advance.new.frame c.advance.ensures.room turn
-    c.in-Went.next (c.advance.ensures.gains turn.turn.0 running) moves.0
+    c.in-Went.next (c.advance.ensures.gains turn.turn.0 running) (of_went _ _ _ _ c.in-Ok.moved c.in-Went.next c.in-Went.is (c.in-Ok.ensures.counts turn.turn.0 running)) moves.0
 
 pub returns-in-Asked-clause-turns : goal.returns-in-Asked-clause-turns
 returns-in-Asked-clause-turns g c fuel root turn =
@@ -36,10 +36,10 @@ returns-in-Asked-clause-turns g c fuel root turn =
     let same : body.frame ≡ c.index_mut-frame.result.now = frame_is c.args.levels.now.frames.items c.args.level body.frame c.index_mut-frame.result.now body.has_frame c.index_mut-frame.ensures.value in
     let running = subst (λ f. g.B.Bodies.runs b (g.St.Store.state c.args.store.now) f c.args.level turn.turn.0 c.args.mark) same body.runs_at in
     let moves = of_asked _ _ _ _ c.in-Ok.moved c.in-Asked.waiting c.in-Asked.inner c.in-Asked.is (c.in-Ok.ensures.moves turn.turn.0 running) in
-    asked_for (g.B.Bodies.asks b) (g.B.Bodies.gives b) (g.B.Bodies.runs b) (g.B.Bodies.waits b) (g.B.Bodies.fits b) (g.B.Bodies.lacks b) (g.B.Bodies.meets b)
+    asked_for (g.B.Bodies.form b) (g.B.Bodies.asks b) (g.B.Bodies.gives b) (g.B.Bodies.runs b) (g.B.Bodies.waits b) (g.B.Bodies.fits b) (g.B.Bodies.lacks b) (g.B.Bodies.meets b) (g.B.Bodies.calls b) (g.B.Bodies.whole b)
     (g.met.B.Bodies.lasts b) (g.met.B.Bodies.deep b) (g.met.B.Bodies.within b) fuel root c.args.levels.now.frames.items c.args.levels.now.marks.items
     (g.St.Store.state c.args.store.now) (g.St.Store.state c.advance.new.store) c.args.level c.args.mark c.advance.new.frame c.advance.ensures.room turn
-    c.in-Asked.waiting moves.0 c.in-Asked.inner (c.advance.ensures.gains turn.turn.0 running) moves.1 moves.2
+    c.in-Asked.waiting moves.0 c.in-Asked.inner (c.advance.ensures.gains turn.turn.0 running) (of_asked _ _ _ _ c.in-Ok.moved c.in-Asked.waiting c.in-Asked.inner c.in-Asked.is (c.in-Ok.ensures.counts turn.turn.0 running)) moves.1 moves.2
 
 pub returns-in-Ended-clause-turns : goal.returns-in-Ended-clause-turns
 returns-in-Ended-clause-turns g c fuel root turn =
@@ -47,10 +47,13 @@ returns-in-Ended-clause-turns g c fuel root turn =
     let body = turn.turn.2 in
     let same : body.frame ≡ c.index_mut-frame.result.now = frame_is c.args.levels.now.frames.items c.args.level body.frame c.index_mut-frame.result.now body.has_frame c.index_mut-frame.ensures.value in
     let running = subst (λ f. g.B.Bodies.runs b (g.St.Store.state c.args.store.now) f c.args.level turn.turn.0 c.args.mark) same body.runs_at in
-    ended_with (g.B.Bodies.asks b) (g.B.Bodies.gives b) (g.B.Bodies.runs b) (g.B.Bodies.waits b) (g.B.Bodies.fits b) (g.B.Bodies.lacks b) (g.B.Bodies.meets b)
+    ended_with (g.B.Bodies.form b) (g.B.Bodies.asks b) (g.B.Bodies.gives b) (g.B.Bodies.runs b) (g.B.Bodies.waits b) (g.B.Bodies.fits b) (g.B.Bodies.lacks b) (g.B.Bodies.meets b) (g.B.Bodies.calls b) (g.B.Bodies.whole b)
     (g.met.B.Bodies.lasts b) (g.met.B.Bodies.deep b) (g.met.B.Bodies.within b) fuel root c.args.levels.now.frames.items c.args.levels.now.marks.items
     (g.St.Store.state c.args.store.now) (g.St.Store.state c.advance.new.store) c.args.level c.args.mark c.advance.new.frame c.advance.ensures.room turn
-    c.in-Ended.given (c.args.level + 1) (omega arith) (c.advance.ensures.gains turn.turn.0 running) (of_ended _ _ _ _ c.in-Ok.moved c.in-Ended.given c.in-Ended.is (c.in-Ok.ensures.moves turn.turn.0 running))
+    (g.B.Bodies.height b) (g.met.B.Bodies.own b) (g.met.B.Bodies.calls_within b) (g.met.B.Bodies.one_height b) (g.met.B.Bodies.lower b) (g.met.B.Bodies.same_height b)
+    c.index_mut-frame.result.now running c.in-Ended.given (of_ended _ _ _ _ c.in-Ok.moved c.in-Ended.given c.in-Ended.is (c.in-Ok.ensures.moves turn.turn.0 running))
+    (of_ended _ _ _ _ c.in-Ok.moved c.in-Ended.given c.in-Ended.is (c.in-Ok.ensures.counts turn.turn.0 running))
+    (c.args.level + 1) (omega arith) (c.advance.ensures.gains turn.turn.0 running) (c.advance.ensures.wholes turn.turn.0 running)
 
 pub returns-in-Deep-clause-turns : goal.returns-in-Deep-clause-turns
 returns-in-Deep-clause-turns g c fuel root turn =
@@ -58,10 +61,10 @@ returns-in-Deep-clause-turns g c fuel root turn =
     let body = turn.turn.2 in
     let same : body.frame ≡ c.index_mut-frame.result.now = frame_is c.args.levels.now.frames.items c.args.level body.frame c.index_mut-frame.result.now body.has_frame c.index_mut-frame.ensures.value in
     let running = subst (λ f. g.B.Bodies.runs b (g.St.Store.state c.args.store.now) f c.args.level turn.turn.0 c.args.mark) same body.runs_at in
-    went_deep (g.B.Bodies.asks b) (g.B.Bodies.gives b) (g.B.Bodies.runs b) (g.B.Bodies.waits b) (g.B.Bodies.fits b) (g.B.Bodies.lacks b) (g.B.Bodies.meets b)
+    went_deep (g.B.Bodies.form b) (g.B.Bodies.asks b) (g.B.Bodies.gives b) (g.B.Bodies.runs b) (g.B.Bodies.waits b) (g.B.Bodies.fits b) (g.B.Bodies.lacks b) (g.B.Bodies.meets b) (g.B.Bodies.calls b) (g.B.Bodies.whole b)
     (g.met.B.Bodies.lasts b) (g.met.B.Bodies.deep b) (g.met.B.Bodies.within b) fuel root c.args.levels.now.frames.items c.args.levels.now.marks.items
     (g.St.Store.state c.args.store.now) (g.St.Store.state c.advance.new.store) c.args.level c.args.mark c.advance.new.frame c.advance.ensures.room turn
-    (c.advance.ensures.gains turn.turn.0 running) (of_deep _ _ _ _ c.in-Ok.moved c.in-Deep.is (c.in-Ok.ensures.moves turn.turn.0 running))
+    (c.advance.ensures.gains turn.turn.0 running) (c.advance.ensures.wholes turn.turn.0 running) (of_deep _ _ _ _ c.in-Ok.moved c.in-Deep.is (c.in-Ok.ensures.moves turn.turn.0 running))
 
 pub overflow_add-result : goal.overflow_add-result
 overflow_add-result g c =

@@ -1,4 +1,4 @@
-use Rattle.std.proofs.Common.{◌≡◌, ℕ, suc, ◌+◌, ◌-◌, ◌*◌, ◌<◌, ◌≤◌, Some, slice_get, subst, sym, ap, ◌∙◌, arith}
+use Rattle.std.proofs.Common.{◌≡◌, Some, slice_get, subst, ap, ◌∙◌}
 use Rattle.lrc_machine.proofs.WaitLemmas.{frame_is}
 use Rattle.lrc_machine.proofs.TurnLemmas.{waiter, resumed_at}
 use Rattle.lrc_machine.proofs.MeasureLemmas.{resumed}
@@ -9,7 +9,7 @@ returns-clause-turns g c fuel root less turn =
     let b = c.args.bodies.now in
     let s = g.St.Store.state c.args.store.now in
     let fit = c.resume-next.ensures.room in
-    let found = waiter (g.B.Bodies.asks b) (g.B.Bodies.gives b) (g.B.Bodies.runs b) (g.B.Bodies.waits b) (g.B.Bodies.fits b) (g.B.Bodies.lacks b) (g.B.Bodies.meets b)
+    let found = waiter (g.B.Bodies.form b) (g.B.Bodies.asks b) (g.B.Bodies.gives b) (g.B.Bodies.runs b) (g.B.Bodies.waits b) (g.B.Bodies.fits b) (g.B.Bodies.lacks b) (g.B.Bodies.meets b) (g.B.Bodies.calls b) (g.B.Bodies.whole b)
     (g.met.B.Bodies.lasts b) (g.met.B.Bodies.deep b) (g.met.B.Bodies.within b) fuel root c.args.levels.now.frames.items c.args.levels.now.marks.items
     s (g.St.Store.state c.resume-next.new.store) c.args.level c.args.given c.resume-next.new.frame fit turn less in
     let w = found.1 in
@@ -17,10 +17,10 @@ returns-clause-turns g c fuel root less turn =
     let same_mark : w.mark ≡ c.index-mark.result.now = frame_is c.args.levels.now.marks.items c.args.level w.mark c.index-mark.result.now w.has_mark c.index-mark.ensures in
     let waits = subst (λ m. g.B.Bodies.waits b s c.index_mut-frame.result.now c.args.level found.0 m turn.turn.0) same_mark
     (subst (λ f. g.B.Bodies.waits b s f c.args.level found.0 w.mark turn.turn.0) same_frame w.waits_for) in
-    resumed_at (g.B.Bodies.asks b) (g.B.Bodies.gives b) (g.B.Bodies.runs b) (g.B.Bodies.waits b) (g.B.Bodies.fits b) (g.B.Bodies.lacks b) (g.B.Bodies.meets b)
+    resumed_at (g.B.Bodies.form b) (g.B.Bodies.asks b) (g.B.Bodies.gives b) (g.B.Bodies.runs b) (g.B.Bodies.waits b) (g.B.Bodies.fits b) (g.B.Bodies.lacks b) (g.B.Bodies.meets b) (g.B.Bodies.calls b) (g.B.Bodies.whole b)
     (g.met.B.Bodies.lasts b) (g.met.B.Bodies.deep b) (g.met.B.Bodies.within b) fuel root c.args.levels.now.frames.items c.args.levels.now.marks.items
     s (g.St.Store.state c.resume-next.new.store) c.args.level c.args.given c.resume-next.new.frame fit turn less
-    c.resume-next.result (c.resume-next.ensures.gains found.0 turn.turn.0 waits turn.turn.1) (c.resume-next.ensures.runs found.0 turn.turn.0 waits turn.turn.1).0
+    c.resume-next.result (c.resume-next.ensures.gains found.0 turn.turn.0 waits turn.turn.1) c.resume-next.ensures.kept (c.resume-next.ensures.runs found.0 turn.turn.0 waits turn.turn.1).0
 
 pub returns-clause-falls : goal.returns-clause-falls
 returns-clause-falls g c =
@@ -31,7 +31,7 @@ returns-clause-falls g c =
     let b = c.args.bodies.now in
     let s = g.St.Store.state c.args.store.now in
     let fit = c.resume-next.ensures.room in
-    let found = waiter (g.B.Bodies.asks b) (g.B.Bodies.gives b) (g.B.Bodies.runs b) (g.B.Bodies.waits b) (g.B.Bodies.fits b) (g.B.Bodies.lacks b) (g.B.Bodies.meets b)
+    let found = waiter (g.B.Bodies.form b) (g.B.Bodies.asks b) (g.B.Bodies.gives b) (g.B.Bodies.runs b) (g.B.Bodies.waits b) (g.B.Bodies.fits b) (g.B.Bodies.lacks b) (g.B.Bodies.meets b) (g.B.Bodies.calls b) (g.B.Bodies.whole b)
     (g.met.B.Bodies.lasts b) (g.met.B.Bodies.deep b) (g.met.B.Bodies.within b) fuel root c.args.levels.now.frames.items c.args.levels.now.marks.items
     s (g.St.Store.state c.resume-next.new.store) c.args.level c.args.given c.resume-next.new.frame fit turn less in
     let w = found.1 in

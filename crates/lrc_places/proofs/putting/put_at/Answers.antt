@@ -1,4 +1,4 @@
-use Rattle.lrc_meaning.specs.Tree.{tree, replaced}
+use Rattle.lrc_meaning.specs.Tree.{tree}
 use Rattle.lrc_code.specs.Forms.{tree_cell}
 use Rattle.lrc_places.proofs.PutLemmas.{along, term-full, whole-over}
 use Rattle.lrc_places.proofs.putting.put_at.Goals as goal

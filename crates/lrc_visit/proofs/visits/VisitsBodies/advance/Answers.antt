@@ -28,3 +28,13 @@ returns-clause-moves g c call runs =
     let written = take_at new (drop (length new) items) c.args.frame.now.len (c.advance_body.ensures.room ∙ c.deref_mut.ensures.len) in
     let moves = c.advance_body.ensures.moves call (subst (λ frame. Runs grammar sorts (g.St.Store.state c.args.store.now) frame c.args.level call c.args.mark) (sym c.deref_mut.ensures.value) runs) in
     subst (λ frame. IfOk c.advance_body.result (MovesOn grammar sorts functions.productions (g.St.Store.state c.advance_body.new.store) frame c.args.level call c.args.mark)) (sym written) moves
+
+pub returns-clause-counts : goal.returns-clause-counts
+returns-clause-counts g c call runs =
+    let functions = c.args.self.now.functions.now in
+    c.advance_body.ensures.counts call (subst (λ frame. Runs (grammar_of functions.plan.grammar) functions.plan.parts.sorts (g.St.Store.state c.args.store.now) frame c.args.level call c.args.mark) (sym c.deref_mut.ensures.value) runs)
+
+pub returns-clause-wholes : goal.returns-clause-wholes
+returns-clause-wholes g c call runs =
+    let functions = c.args.self.now.functions.now in
+    c.advance_body.ensures.wholes call (subst (λ frame. Runs (grammar_of functions.plan.grammar) functions.plan.parts.sorts (g.St.Store.state c.args.store.now) frame c.args.level call c.args.mark) (sym c.deref_mut.ensures.value) runs)
