@@ -1,0 +1,6 @@
+pub mod RootLemmas
+pub mod FaultLemmas
+pub mod CallLemmas
+pub mod SessionLemmas
+pub mod PutLemmas
+pub mod EditLemmas

@@ -19,17 +19,17 @@ use Rattle.lrc_session.specs.Sessions.{grammar, sorts, demands, IsStartTree, Has
 module _ (functions : Functions) where
   -- the handle stands for the root's call of a tree of the start sort
   pub record IsRootAsked (s : Standing) (t : Tree) (handle : ℕ) : Type 0 where
-    pub fitting : IsStartTree t
+    pub fitting : IsStartTree functions t
     pub asked : IsAsked s (root_call t) handle
 
   -- the handle stands for the result of the root's visit within the limit
   abbrev pub IsRootGiven : Standing → ℕ → Tree → ℕ → Type 0
-  IsRootGiven s limit t handle = Gives grammar sorts s limit (root_call t) handle
+  IsRootGiven s limit t handle = Gives (grammar functions) (sorts functions) s limit (root_call t) handle
 
   -- a session is to be opened with this tree
   pub record IsProposal (s : Standing) (t : Tree) (proposal : Proposal) : Type 0 where
     pub call : IsRootAsked s t proposal.call.0
-    pub frames : HasFrames proposal.frames proposal.depth
+    pub frames : HasFrames functions proposal.frames proposal.depth
 
   -- What the first half of a put is answered: a handle of the root's call of the changed tree; or that the path names no
   -- place, that what stands there is of another kind, or that the store is full.
@@ -38,13 +38,13 @@ module _ (functions : Functions) where
   ProposalAnswers s t limit whole steps new kind (Err fault.BadPath) = (at_place whole steps ≡ None) × Reads s t
   ProposalAnswers s t limit whole steps new kind (Err fault.WrongSort) = IsOtherPlace functions.plan.grammar.prods whole steps kind × Reads s t
   ProposalAnswers s t limit whole steps new kind (Err fault.TooDeep) = ⊥
-  ProposalAnswers s t limit whole steps new kind (Err fault.Full) = IsPlace functions.plan.grammar.prods whole steps kind × LacksOne t (demands limit (replaced whole steps new))
+  ProposalAnswers s t limit whole steps new kind (Err fault.Full) = IsPlace functions.plan.grammar.prods whole steps kind × LacksOne t (demands functions limit (replaced whole steps new))
 
   -- The first half of a put leaves the session's tree and its attributes; at most rows of what the changed tree demands are
   -- gained.
   pub record ProposesPut (s t : Standing) (whole : Tree) (vs : List Tree) (before after : Session) (steps : List ℕ) (new : Tree) (kind : Kind) (answer : Result Handle EditFault) : Type 0 where
-    pub adds : Adds s t (demands before.depth (replaced whole steps new))
-    pub is_open : IsOpen t after whole vs
+    pub adds : Adds s t (demands functions before.depth (replaced whole steps new))
+    pub is_open : IsOpen functions t after whole vs
     pub depth : after.depth ≡ before.depth
     pub runs : after.runs ≡ before.runs
     pub answers : ProposalAnswers s t before.depth whole steps new kind answer

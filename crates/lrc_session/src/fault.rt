@@ -1,3 +1,5 @@
+ghost use Rattle.std.specs.Prelude.{◌≡◌};
+
 use lrc_base::Memory;
 use lrc_places::ReplaceFault;
 use lrc_store::Full;

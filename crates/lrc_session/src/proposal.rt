@@ -1,6 +1,5 @@
-ghost use Rattle.std.specs.Prelude.{◌≡◌, IfOk, OnErr};
-ghost use Rattle.lrc_meaning.specs.Tree.{Tree, tree, tree_height};
-ghost use Rattle.lrc_store.specs.Cells.{parts};
+ghost use Rattle.std.specs.Prelude.{◌≡◌};
+ghost use Rattle.lrc_meaning.specs.Tree.{Tree};
 ghost use Rattle.lrc_store.specs.Standing.{Stands};
 ghost use Rattle.lrc_store.specs.Words.{Reads};
 ghost use Rattle.lrc_code.specs.Forms.{tree_cell};
@@ -30,6 +29,8 @@ pub(crate) fn put_root_call<St: Store>(store: &mut St, root: Handle) -> Result<H
     ensures builds { (t : Tree) → Stands (St.state store.old) root.0 (tree_cell t) → Builds (St.state store.old) (St.state store.new) (call_form (root_call t)) result }
     ensures same_meaning { St.meaning store.new ≡ St.meaning store.old }
 {
+    // A sound store knows nil.
+    let _ = store.published();
     put_call(store, root, 1, Handle::NIL, Handle::NIL)
 }
 

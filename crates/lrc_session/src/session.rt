@@ -1,4 +1,4 @@
-ghost use Rattle.std.specs.Prelude.{◌≡◌, ◌≢◌, ◌-◌, ◌<◌, ℕ, List, Some, Err, IfOk, OnErr, IsErrOf, length, slice_get};
+ghost use Rattle.std.specs.Prelude.{◌≡◌, ◌≢◌, ◌-◌, ◌<◌, ℕ, List, Some, Err, IfOk, OnErr, IsErrOf, length, slice_get, IsTrue};
 ghost use Rattle.lrc_meaning.specs.Tree.{Tree, tree, fits};
 ghost use Rattle.lrc_store.specs.Standing.{Stands};
 ghost use Rattle.lrc_store.specs.Words.{Adds, Gains, LacksOne, Reads};
@@ -48,21 +48,21 @@ impl Session {
         store: &mut St,
         functions: &Functions,
         depth: u32,
-        tree: &Term,
+        term: &Term,
     ) -> Result<Proposal, StartFault>
-        requires tree { IsStartTree functions.now (tree tree.now) }
-        ensures adds { Adds (St.state store.old) (St.state store.new) (demands functions.now depth (tree tree.now)) }
-        ensures proposal { IfOk result (λ proposal. IsProposal functions.now (St.state store.new) (tree tree.now) proposal) }
+        requires tree { IsStartTree functions.now (tree term.now) }
+        ensures adds { Adds (St.state store.old) (St.state store.new) (demands functions.now depth (tree term.now)) }
+        ensures proposal { IfOk result (λ proposal. IsProposal functions.now (St.state store.new) (tree term.now) proposal) }
         ensures depth { IfOk result (λ proposal. proposal.depth ≡ depth) }
         ensures missed { IfOk result (λ proposal. proposal.missed ≡ (St.state store.old).missed) }
-        ensures full { result ≡ Err start.Full → LacksOne (St.state store.new) (demands functions.now depth (tree tree.now)) }
+        ensures full { result ≡ Err start.Full → LacksOne (St.state store.new) (demands functions.now depth (tree term.now)) }
         ensures not_deep { result ≢ Err start.TooDeep }
         ensures same_meaning { St.meaning store.new ≡ St.meaning store.old }
     {
-        term_is_spelled(tree);
+        term_is_spelled(term);
         let frames = Frames::new(alloc, functions, depth)?;
         let missed = store.missed();
-        let root = put_term(store, tree)?;
+        let root = put_term(store, term)?;
         let call = put_root_call(store, root)?;
         Ok(Proposal {
             frames,
@@ -108,18 +108,18 @@ impl Session {
         store: &mut St,
         functions: &Functions,
         depth: u32,
-        tree: &Term,
+        term: &Term,
     ) -> Result<Session, StartFault>
         requires meaning { IsMeaningOf functions.now (St.meaning store.old) }
-        requires tree { IsStartTree functions.now (tree tree.now) }
-        ensures gains { Gains (St.state store.old) (St.state store.new) (demands functions.now depth (tree tree.now)) }
-        ensures opens { IfOk result (λ session. Opens functions.now (St.state store.new) depth (tree tree.now) session) }
-        ensures too_deep { result ≡ Err start.TooDeep → IsTooDeep functions.now depth (tree tree.now) }
-        ensures full { result ≡ Err start.Full → LacksOne (St.state store.new) (demands functions.now depth (tree tree.now)) }
+        requires tree { IsStartTree functions.now (tree term.now) }
+        ensures gains { Gains (St.state store.old) (St.state store.new) (demands functions.now depth (tree term.now)) }
+        ensures opens { IfOk result (λ session. Opens functions.now (St.state store.new) depth (tree term.now) session) }
+        ensures too_deep { result ≡ Err start.TooDeep → IsTooDeep functions.now depth (tree term.now) }
+        ensures full { result ≡ Err start.Full → LacksOne (St.state store.new) (demands functions.now depth (tree term.now)) }
         ensures runs { IfOk result (λ session. session.runs ≡ (St.state store.new).missed - (St.state store.old).missed) }
         ensures same_meaning { St.meaning store.new ≡ St.meaning store.old }
     {
-        let mut proposal = Session::propose(alloc, store, functions, depth, tree)?;
+        let mut proposal = Session::propose(alloc, store, functions, depth, term)?;
         let given = visit(store, functions, &mut proposal.frames, proposal.call, depth)?;
         Ok(Session::begin(store, functions, proposal, given))
     }
