@@ -1,0 +1,31 @@
+-- Lines of replies, one after another.
+use Rattle.std.proofs.Common.{◌≡◌, ℕ, ◌+◌, ◌<◌, List, [], ◌∷◌, ◌++◌, map, length, take, get_or, refl, sym, ap, ◌∙◌, subst}
+use Rattle.std.proofs.lemmas.List.{map-append, take_more}
+use Rattle.lrc_base.specs.declared.job.Edit.{Edit}
+use Rattle.lrc_meaning.specs.Grammar.{Grammar}
+use Rattle.lrc_meaning.specs.Editing.{Reply, unopened, Change, change, all_unopened}
+use Rattle.lrc_run.specs.declared.reply.Line.{Line}
+use Rattle.lrc_run.specs.Lines.{IsLine, AreLines}
+
+pub one_line_more : (g : Grammar) (replies : List Reply) (lines : List Line) (reply : Reply) (line : Line) → AreLines g replies lines → IsLine g reply line → AreLines g (replies ++ reply ∷ []) (lines ++ line ∷ [])
+one_line_more g [] [] reply line are is = (is, tt)
+one_line_more g [] (l ∷ ls) reply line are is = absurd are
+one_line_more g (r ∷ rs) [] reply line are is = absurd are
+one_line_more g (r ∷ rs) (l ∷ ls) reply line are is = (are.0, one_line_more g rs ls reply line are.1 is)
+
+unopened_more : (cs : List Change) (c : Change) → all_unopened (cs ++ c ∷ []) ≡ all_unopened cs ++ unopened ∷ []
+unopened_more [] c = refl
+unopened_more (d ∷ cs) c = ap (λ rs. unopened ∷ rs) (unopened_more cs c)
+
+-- the changes up to the next edit
+pub changes_more : (edits : List Edit) (i : ℕ) (e : Edit) → i < length edits → e ≡ get_or edits i e → map change (take (i + 1) edits) ≡ map change (take i edits) ++ change e ∷ []
+changes_more edits i e h is =
+    ap (map change) (take_more edits i e h ∙ ap (λ (x : Edit). take i edits ++ x ∷ []) (sym is)) ∙ map-append change (take i edits) (e ∷ [])
+
+-- one more edit is unopened
+pub one_unopened_more : (g : Grammar) (reply : Reply) (edits : List Edit) (i : ℕ) (lines : List Line) (line : Line) (e : Edit) → i < length edits → e ≡ get_or edits i e →
+    AreLines g (reply ∷ all_unopened (map change (take i edits))) lines → IsLine g unopened line → AreLines g (reply ∷ all_unopened (map change (take (i + 1) edits))) (lines ++ line ∷ [])
+one_unopened_more g reply edits i lines line e h is are one =
+    subst (λ cs. AreLines g (reply ∷ cs) (lines ++ line ∷ []))
+    (sym (unopened_more (map change (take i edits)) (change e)) ∙ ap all_unopened (sym (changes_more edits i e h is)))
+    (one_line_more g (reply ∷ all_unopened (map change (take i edits))) lines unopened line are one)

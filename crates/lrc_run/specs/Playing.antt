@@ -1,0 +1,67 @@
+-- What a session answers over a store that nobody else uses.
+use Rattle.std.specs.Prelude.{ℕ, ◌≡◌, Bool, false, IsTrue, List, [], ◌∷◌, Option, Some, None, Contains, length, map, ⊤}
+use Rattle.std.specs.List.{list_all}
+use Rattle.lrc_base.specs.declared.job.Edit.{Edit}
+use Rattle.lrc_base.specs.declared.job.Edit.TheVariants as edit
+use Rattle.lrc_base.specs.declared.job.Script.{Script}
+use Rattle.lrc_base.specs.declared.grammar.Production.{Production}
+use Rattle.lrc_meaning.specs.Tree.{Tree, tree, fits}
+use Rattle.lrc_meaning.specs.Editing.{change, Reply, Attempt, ReplyRun}
+use Rattle.lrc_meaning.specs.Text.{unparsed}
+use Rattle.lrc_store.specs.Cells.{CellTree, IsWithin}
+use Rattle.lrc_store.specs.Standing.{Standing, Stands, IsSound}
+use Rattle.lrc_store.specs.declared.cells.Handle.{Handle}
+use Rattle.lrc_code.specs.Forms.{tree_cell}
+use Rattle.lrc_functions.specs.declared.functions.Functions.{Functions}
+use Rattle.lrc_session.specs.Sessions.{grammar, sorts}
+use Rattle.lrc_run.specs.Rows.{demands, IsLessThanWanted, WantsMore}
+use Rattle.lrc_run.specs.Lines.{AreLines}
+use Rattle.lrc_run.specs.declared.reply.Out.{Out}
+
+-- the edit puts a term of the kind beside it
+abbrev pub is_fitting_put : List Production → Edit → Bool
+is_fitting_put prods (edit.Put path kind term) = fits prods (tree term) kind
+is_fitting_put prods (edit.Copy from to) = false
+is_fitting_put prods edit.Show = false
+is_fitting_put prods (edit.Forget place) = false
+
+abbrev pub are_fitting_puts : List Production → List Edit → Bool
+are_fitting_puts prods edits = list_all (is_fitting_put prods) edits
+
+-- nothing was put into the store, and it tells what is in it for good
+pub record IsUnused (s : Standing) : Type 0 where
+  pub sound : IsSound s
+  pub made : s.made ≡ []
+  pub drawn : s.drawn ≡ None
+  pub seen : s.seen ≡ Some []
+
+-- the handle stands for the last tree; none where there is none
+abbrev pub IsLast : Standing → Option Tree → Option Handle → Type 0
+IsLast s None None = ⊤
+IsLast s None (Some handle) = ⊥
+IsLast s (Some t) None = ⊥
+IsLast s (Some t) (Some handle) = Stands s handle.0 (tree_cell t)
+
+module _ (functions : Functions) (limit : ℕ) where
+  -- At an attempt all rows of a store are used, and they are fewer than the cells that are demanded so far.
+  pub record RunsOut (s : Standing) (earlier : List Attempt) (t : Tree) : Type 0 where
+    pub used : length s.made ≡ s.quota
+    pub less : IsLessThanWanted (grammar functions) (sorts functions) limit (length s.made) earlier t
+    pub wants : WantsMore (grammar functions) (sorts functions) limit earlier t
+
+  -- What a store has after these attempts: rows of what they demand, and all that those demand that were answered with values.
+  pub record Holds (s : Standing) (attempts : List Attempt) : Type 0 where
+    pub sound : IsSound s
+    pub made : IsWithin s.made (demands (grammar functions) (sorts functions) limit attempts)
+    pub seen : (seen : List CellTree) × (s.seen ≡ Some seen) × ((attempt : Attempt) → Contains attempts attempt → IsTrue attempt.answered → IsWithin (demands (grammar functions) (sorts functions) limit (attempt ∷ [])) seen)
+
+  -- A session was played: its lines are those of its replies by the editing rules, where `full` comes only where the rows of the
+  -- store have run out, and its last tree is in the store.
+  pub record Plays (s : Standing) (script : Script) (out : Out) : Type 0 where
+    pub replies : List Reply
+    pub last : Option Tree
+    pub attempts : List Attempt
+    pub runs : ReplyRun (grammar functions) limit (unparsed functions.plan.grammar.prods) (RunsOut s) (tree script.tree) (map change script.edits) replies last attempts
+    pub holds : Holds s attempts
+    pub lines : AreLines (grammar functions) replies out.lines
+    pub is_last : IsLast s last out.last

@@ -1,0 +1,13 @@
+//! Runs of sessions over stores: each edit's reply, and its line of text.
+#![tactic(auto)]
+
+mod editing;
+mod laws;
+mod lines;
+mod playing;
+mod reply;
+mod values;
+
+pub use laws::runs_out_of_rows;
+pub use playing::play;
+pub use reply::{Line, Out, Outcome};
