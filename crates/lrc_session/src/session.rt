@@ -1,3 +1,4 @@
+ghost use Rattle.std.specs.Borrow.{sem};
 ghost use Rattle.std.specs.Prelude.{◌≡◌, ◌≢◌, ◌-◌, ◌<◌, List, Some, Err, IfOk, OnErr, length, slice_get, IsTrue};
 ghost use Rattle.lrc_meaning.specs.Tree.{Tree, tree, fits, replaced};
 ghost use Rattle.lrc_store.specs.Standing.{Stands};
@@ -7,6 +8,7 @@ ghost use Rattle.lrc_machine.specs.Counts.{Counted};
 ghost use Rattle.lrc_bodies.specs.Bodies.{IsMeaningOf};
 ghost use Rattle.lrc_bodies.specs.Counting.{IsWhole};
 ghost use Rattle.lrc_session.specs.Sessions.{grammar, sorts, IsStartTree, IsOpen, IsCalled, IsTooDeep, Opens, Edits, demands};
+ghost use Rattle.lrc_session.specs.Lending.{LendsFrames};
 ghost use Rattle.lrc_session.specs.Proposals.{IsRootAsked, IsRootGiven, IsProposal, ProposesPut};
 ghost use Rattle.lrc_session.specs.declared.fault.StartFault.TheVariants as start;
 ghost use Rattle.lrc_functions.specs.declared.functions.Functions.{Functions};
@@ -210,6 +212,15 @@ impl Session {
         let given = visit(store, functions, &mut self.frames, call, self.depth)?;
         self.settle(store, functions, call, given);
         Ok(())
+    }
+
+    /// The frames, for the visit between the halves of a put. Whoever writes to them keeps their levels
+    /// and the room of each.
+    pub fn frames(&mut self) -> &mut Frames
+        ensures* writes_back { sem 𝓛 (LendsFrames self.entry result) }
+        ensures value { result.now ≡ self.old.frames }
+    {
+        &mut self.frames
     }
 
     /// The root's synthesised attribute of this number, from 0.
