@@ -1,8 +1,10 @@
 -- What the edits of an open session are answered over a store, one after another.
 use Rattle.std.specs.Prelude.{ℕ, ◌≡◌, not, IsTrue, List, ◌∷◌, map, ⊤}
 use Rattle.lrc_meaning.specs.Tree.{Tree}
+use Rattle.lrc_meaning.specs.Grammar.{Grammar}
 use Rattle.lrc_meaning.specs.Editing.{Change, Reply, values, bad_path, wrong_sort, too_deep, full, unopened, shown, forgot, Attempt, asked, EditStep, EditRun}
 use Rattle.lrc_meaning.specs.Text.{unparsed}
+use Rattle.lrc_order_meaning.specs.declared.Partition.{Partition}
 use Rattle.lrc_order_meaning.specs.Ordered.{HasOrder}
 use Rattle.lrc_store.specs.Cells.{CellTree}
 use Rattle.lrc_store.specs.Standing.{Standing, IsSound}
@@ -22,6 +24,18 @@ GainsSome s t = (cells : List CellTree) × Gains s t cells
 
 -- ---- counts
 
+module _ (g : Grammar) (parts : List Partition) (limit : ℕ) where
+  -- a reply with values to an attempt at the tree has its counts
+  abbrev pub IsCountedReply : List Attempt → Tree → Reply → Counts → Type 0
+  IsCountedReply earlier t (values vs) counts = HasCounts g parts limit earlier t counts
+  IsCountedReply earlier t bad_path counts = ⊤
+  IsCountedReply earlier t wrong_sort counts = ⊤
+  IsCountedReply earlier t too_deep counts = ⊤
+  IsCountedReply earlier t full counts = ⊤
+  IsCountedReply earlier t unopened counts = ⊤
+  IsCountedReply earlier t (shown text) counts = ⊤
+  IsCountedReply earlier t forgot counts = ⊤
+
 module _ (functions : Functions) (limit : ℕ) where
   -- What is known of a store of its own as long as each attempt was answered with values: what it has is just what these made, and
   -- its memo is whole.
@@ -29,17 +43,6 @@ module _ (functions : Functions) (limit : ℕ) where
     pub sound : IsSound s
     pub whole : IsWhole (grammar functions) (sorts functions) s.memo
     pub tallies : Tallies (grammar functions) (sorts functions) limit s attempts
-
-  -- a reply with values to an attempt has its counts
-  abbrev pub IsCountedReply : List Attempt → Tree → Reply → Counts → Type 0
-  IsCountedReply earlier attempt (values vs) counts = HasCounts (grammar functions) (sorts functions) limit earlier attempt counts
-  IsCountedReply earlier attempt bad_path counts = ⊤
-  IsCountedReply earlier attempt wrong_sort counts = ⊤
-  IsCountedReply earlier attempt too_deep counts = ⊤
-  IsCountedReply earlier attempt full counts = ⊤
-  IsCountedReply earlier attempt unopened counts = ⊤
-  IsCountedReply earlier attempt (shown text) counts = ⊤
-  IsCountedReply earlier attempt forgot counts = ⊤
 
 -- ---- edits
 
@@ -49,7 +52,7 @@ module _ (functions : Functions) (s t : Standing) (limit : ℕ) where
     pub attempts : List Attempt
     pub step : EditStep (grammar functions) limit (unparsed functions.plan.grammar.prods) (RunsOut functions limit t) earlier before c reply attempts after
     pub holds : Holds functions limit t attempts
-    pub counted : IsTallied functions limit s earlier → IsCountedReply functions limit earlier (asked before c) reply (counts_of line)
+    pub counted : IsTallied functions limit s earlier → IsCountedReply (grammar functions) (sorts functions) limit earlier (asked before c) reply (counts_of line)
     pub tallied : IsTallied functions limit s earlier → IsTrue (not (stops_counts reply)) → IsTallied functions limit t attempts
 
   -- and edits one after another
