@@ -3,8 +3,11 @@ use Rattle.std.proofs.Common.{[], ◌++◌}
 use Rattle.std.proofs.lemmas.List.Elements.{Contains-append_left, Contains-append_right}
 use Rattle.lrc_store.specs.Standing.{Standing}
 use Rattle.lrc_store.specs.Words.{Reads}
-use Rattle.lrc_store.proofs.Lasting.{stays-gains, gains-then, gains-more}
+use Rattle.lrc_store.proofs.Lasting.{stays-gains, gains-same, gains-then, gains-more}
 use Rattle.lrc_run.specs.Editing.{GainsSome}
+
+pub some_same : (s : Standing) → GainsSome s s
+some_same s = ([], gains-same s [])
 
 pub some_read : (s t : Standing) → Reads s t → GainsSome s t
 some_read s t reads = ([], stays-gains s t [] reads.stays)

@@ -21,7 +21,7 @@ told_later None b seen e g = absurd (cc)
 told_later (Some xs) None seen e g = absurd g
 told_later (Some xs) (Some ys) seen e g = let same : xs ≡ seen = cc in (ys, refl, subst (λ cells. IsWithin cells ys) same g)
 
-told_at : (a : Option (List CellTree)) (seen : List CellTree) (P : List CellTree → Type 0) → a ≡ Some seen → Told a P → P seen
+pub told_at : (a : Option (List CellTree)) (seen : List CellTree) (P : List CellTree → Type 0) → a ≡ Some seen → Told a P → P seen
 told_at a seen P e h = subst (λ o. Told o P) e h
 
 module _ (functions : Functions) (limit : ℕ) where
@@ -40,7 +40,7 @@ module _ (functions : Functions) (limit : ℕ) where
       ]
 
   -- with one attempt more all is demanded that was wanted at it
-  wanted_is_demanded : (earlier : List Attempt) (attempt : Attempt) →
+  pub wanted_is_demanded : (earlier : List Attempt) (attempt : Attempt) →
       IsWithin (wanted (grammar functions) (sorts functions) limit earlier attempt.tree) (demands (grammar functions) (sorts functions) limit (earlier ++ attempt ∷ []))
   wanted_is_demanded earlier attempt cell h =
       let before = flat_map cells_at earlier in
@@ -51,8 +51,18 @@ module _ (functions : Functions) (limit : ℕ) where
         | inr here ↦ Contains-append_right before one cell (one_demands attempt cell here)
       ])
 
+  pub demanded_is_wanted : (earlier : List Attempt) (attempt : Attempt) →
+      IsWithin (demands (grammar functions) (sorts functions) limit (earlier ++ attempt ∷ [])) (wanted (grammar functions) (sorts functions) limit earlier attempt.tree)
+  demanded_is_wanted earlier attempt cell h =
+      let before = flat_map cells_at earlier in
+      let one = flat_map cells_at (attempt ∷ []) in
+      elim (Contains-append_cases before one cell (subst (λ cells. Contains cells cell) (flat_map-append cells_at earlier (attempt ∷ [])) h)) [
+        | inl among ↦ Contains-append_left before (cells_at attempt) cell among
+        | inr here ↦ Contains-append_right before (cells_at attempt) cell (demanded_by_one attempt cell here)
+      ]
+
   -- what was made before an attempt, and in it, is wanted there
-  made_is_wanted : (s t : Standing) (earlier : List Attempt) (tree : Tree) → IsWithin s.made (demands (grammar functions) (sorts functions) limit earlier) → Gains s t (demanded (grammar functions) (sorts functions) limit tree) →
+  pub made_is_wanted : (s t : Standing) (earlier : List Attempt) (tree : Tree) → IsWithin s.made (demands (grammar functions) (sorts functions) limit earlier) → Gains s t (demanded (grammar functions) (sorts functions) limit tree) →
       IsWithin t.made (wanted (grammar functions) (sorts functions) limit earlier tree)
   made_is_wanted s t earlier tree within gains cell h =
       let before = flat_map cells_at earlier in

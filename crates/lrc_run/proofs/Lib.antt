@@ -1,7 +1,11 @@
 pub mod RunLemmas
+pub mod MemberLemmas
 pub mod HoldsLemmas
+pub mod TallyLemmas
+pub mod CountedLemmas
 pub mod LineLemmas
 pub mod ValueLemmas
 pub mod GrowLemmas
 pub mod EditLemmas
 pub mod SessionLemmas
+pub mod SoloLemmas

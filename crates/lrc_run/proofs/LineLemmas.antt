@@ -1,11 +1,17 @@
 -- Lines of replies, one after another.
-use Rattle.std.proofs.Common.{◌≡◌, ℕ, ◌+◌, ◌<◌, List, [], ◌∷◌, ◌++◌, map, length, take, get_or, refl, sym, ap, ◌∙◌, subst}
+use Rattle.std.proofs.Common.{◌≡◌, ℕ, ◌+◌, ◌<◌, List, [], ◌∷◌, ◌++◌, map, length, take, get_or, Result, Ok, Err, refl, sym, ap, ◌∙◌, subst}
+use Rattle.std.specs.Prelude.{IfOk}
 use Rattle.std.proofs.lemmas.List.{map-append, take_more}
 use Rattle.lrc_base.specs.declared.job.Edit.{Edit}
 use Rattle.lrc_meaning.specs.Grammar.{Grammar}
 use Rattle.lrc_meaning.specs.Editing.{Reply, unopened, Change, change, all_unopened}
 use Rattle.lrc_run.specs.declared.reply.Line.{Line}
 use Rattle.lrc_run.specs.Lines.{IsLine, AreLines}
+
+-- two facts of an answer
+pub both_ok : {A E : Type 0} (r : Result A E) (P Q R : A → Type 0) → ((x : A) → P x → Q x → R x) → IfOk r P → IfOk r Q → IfOk r R
+both_ok (Ok x) P Q R f p q = f x p q
+both_ok (Err e) P Q R f p q = tt
 
 pub one_line_more : (g : Grammar) (replies : List Reply) (lines : List Line) (reply : Reply) (line : Line) → AreLines g replies lines → IsLine g reply line → AreLines g (replies ++ reply ∷ []) (lines ++ line ∷ [])
 one_line_more g [] [] reply line are is = (is, tt)

@@ -16,6 +16,7 @@ use Rattle.lrc_functions.specs.declared.functions.Functions.{Functions}
 use Rattle.lrc_session.specs.Sessions.{grammar, sorts}
 use Rattle.lrc_run.specs.Rows.{demands, IsLessThanWanted, WantsMore}
 use Rattle.lrc_run.specs.Lines.{AreLines}
+use Rattle.lrc_run.specs.Counts.{counts_of, Tallies, IsCounted, are_all_counted}
 use Rattle.lrc_run.specs.declared.reply.Out.{Out}
 
 -- the edit puts a term of the kind beside it
@@ -34,6 +35,11 @@ pub record IsUnused (s : Standing) : Type 0 where
   pub made : s.made ≡ []
   pub drawn : s.drawn ≡ None
   pub seen : s.seen ≡ Some []
+
+-- its memo, which it tells, is empty, and no recall found nothing
+pub record IsUncounted (s : Standing) : Type 0 where
+  pub memo : s.memo ≡ Some []
+  pub missed : s.missed ≡ 0
 
 -- the handle stands for the last tree; none where there is none
 abbrev pub IsLast : Standing → Option Tree → Option Handle → Type 0
@@ -56,12 +62,15 @@ module _ (functions : Functions) (limit : ℕ) where
     pub seen : (seen : List CellTree) × (s.seen ≡ Some seen) × ((attempt : Attempt) → Contains attempts attempt → IsTrue attempt.answered → IsWithin (demands (grammar functions) (sorts functions) limit (attempt ∷ [])) seen)
 
   -- A session was played: its lines are those of its replies by the editing rules, where `full` comes only where the rows of the
-  -- store have run out, and its last tree is in the store.
-  pub record Plays (s : Standing) (script : Script) (out : Out) : Type 0 where
+  -- store have run out, and its last tree is in the store. Where the store told its memo and was fresh, the lines have the counts
+  -- of bodies and of cells, and the store has those of the whole session, if each attempt was answered with values.
+  pub record Plays (before after : Standing) (script : Script) (out : Out) : Type 0 where
     pub replies : List Reply
     pub last : Option Tree
     pub attempts : List Attempt
-    pub runs : ReplyRun (grammar functions) limit (unparsed functions.plan.grammar.prods) (RunsOut s) (tree script.tree) (map change script.edits) replies last attempts
-    pub holds : Holds s attempts
+    pub runs : ReplyRun (grammar functions) limit (unparsed functions.plan.grammar.prods) (RunsOut after) (tree script.tree) (map change script.edits) replies last attempts
+    pub holds : Holds after attempts
     pub lines : AreLines (grammar functions) replies out.lines
-    pub is_last : IsLast s last out.last
+    pub is_last : IsLast after last out.last
+    pub counted : IsUncounted before → IsCounted (grammar functions) (sorts functions) limit (tree script.tree) (map change script.edits) replies (map counts_of out.lines)
+    pub tallies : IsUncounted before → IsTrue (are_all_counted replies) → Tallies (grammar functions) (sorts functions) limit after attempts

@@ -1,5 +1,5 @@
 -- The list of values in a store, and its text, value by value.
-use Rattle.std.specs.Prelude.{ℕ, ◌≡◌, List, [], ◌∷◌, ◌++◌, codes, Option, Some, None, ⊤}
+use Rattle.std.specs.Prelude.{ℕ, ◌≡◌, ◌<◌, ◌^◌, List, [], ◌∷◌, ◌++◌, length, codes, Option, Some, None, ⊤}
 use Rattle.lrc_base.specs.declared.grammar.Attr.{Attr}
 use Rattle.lrc_base.specs.declared.grammar.Production.{Production}
 use Rattle.lrc_meaning.specs.Tree.{Tree}
@@ -8,6 +8,8 @@ use Rattle.lrc_store.specs.Standing.{Standing, Stands}
 use Rattle.lrc_store.specs.declared.cells.Handle.{Handle}
 use Rattle.lrc_code.specs.Forms.{tree_cell}
 use Rattle.lrc_call_meaning.specs.Forms.{values_cell}
+use Rattle.lrc_session.specs.declared.session.Session.{Session}
+use Rattle.lrc_run.specs.declared.reply.Line.{Line}
 
 -- the handles stand for the first of the values and for the list of the others; none where there is no value
 abbrev pub Begins : Standing → List Tree → Option (Handle × Handle) → Type 0
@@ -26,3 +28,9 @@ Pushes prods s a [] before after None = after ≡ before
 Pushes prods s a [] before after (Some rest) = ⊥
 Pushes prods s a (v ∷ vs) before after None = ⊥
 Pushes prods s a (v ∷ vs) before after (Some rest) = (after ≡ before ++ named prods a v) × Stands s rest.0 (values_cell vs)
+
+-- the line has the counts of the bodies of a session's tree, and of the cells that the store made, which are few
+pub record HasCountsOf (s : Standing) (session : Session) (line : Line) : Type 0 where
+  pub bodies : line.bodies ≡ session.runs
+  pub cells : line.cells ≡ length s.made
+  pub small : length s.made < 2 ^ 32

@@ -6,8 +6,10 @@ mod laws;
 mod lines;
 mod playing;
 mod reply;
+mod solo;
 mod values;
 
 pub use laws::runs_out_of_rows;
 pub use playing::play;
 pub use reply::{Line, Out, Outcome};
+pub use solo::run_solo;

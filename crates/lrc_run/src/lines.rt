@@ -29,5 +29,7 @@ pub(crate) fn refusal(alloc: Global, outcome: Outcome) -> Result<Line, Memory>
     Ok(Line {
         outcome,
         body: Bytes::from_slice(alloc, refusal_text(outcome))?,
+        bodies: 0,
+        cells: 0,
     })
 }

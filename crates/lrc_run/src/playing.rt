@@ -35,23 +35,24 @@ fn unopened(alloc: Global, opening: Line, edits: &[Edit]) -> Result<Out, Memory>
     Ok(Out { lines, last: None })
 }
 
-/// The line of an open session's values, and that of each edit.
+/// The opening's line, and that of each edit of the open session.
 fn edited_all<St: Store<M = VisitMeaning>>(
     alloc: Global,
     store: &mut St,
     functions: &Functions,
     session: &mut Session,
+    opening: Line,
     edits: &[Edit],
 ) -> Result<List<Line>, Memory>
     requires meaning { IsMeaningOf functions.now (St.meaning store.old) }
     requires session { (t : Tree) × (vs : List Tree) × IsOpen functions.now (St.state store.old) session.old t vs }
     requires puts { IsTrue (are_fitting_puts functions.now.plan.grammar.prods edits.now) }
-    ensures edited { (t : Tree) (vs : List Tree) → IsOpen functions.now (St.state store.old) session.old t vs → IfOk result (λ lines. AreEdited functions.now (St.state store.old) (St.state store.new) session.old.depth t vs (map change edits.now) session.new lines) }
+    ensures edited { (t : Tree) (vs : List Tree) → IsOpen functions.now (St.state store.old) session.old t vs → IfOk result (λ lines. AreEdited functions.now (St.state store.old) (St.state store.new) session.old.depth t (map change edits.now) session.new opening lines) }
     ensures gains { GainsSome (St.state store.old) (St.state store.new) }
     ensures same_meaning { St.meaning store.new ≡ St.meaning store.old }
 {
     let mut lines = List::new(alloc);
-    lines.push(values_line(alloc, store, functions, session)?)?;
+    lines.push(opening)?;
     'edits: for edit in edits {
         lines.push(edited(alloc, store, functions, session, edit)?)?;
     }
@@ -74,14 +75,15 @@ pub fn play<St: Store<M = VisitMeaning>>(
     requires unused { IsUnused (St.state store.old) }
     requires opening { IsStartTree functions.now (tree script.now.tree) }
     requires puts { IsTrue (are_fitting_puts functions.now.plan.grammar.prods script.now.edits) }
-    ensures plays { HasOrder (grammar_of functions.now.plan.grammar) functions.now.plan.parts → IfOk result (λ out. Plays functions.now depth (St.state store.new) script.now out) }
+    ensures plays { HasOrder (grammar_of functions.now.plan.grammar) functions.now.plan.parts → IfOk result (λ out. Plays functions.now depth (St.state store.old) (St.state store.new) script.now out) }
     ensures lasts { Lasts (St.state store.old) (St.state store.new) }
     ensures same_meaning { St.meaning store.new ≡ St.meaning store.old }
 {
     let edits = script.edits.as_slice();
     match Session::start(alloc, store, functions, depth, &script.tree) {
         Ok(mut session) => {
-            let lines = edited_all(alloc, store, functions, &mut session, edits)?;
+            let opening = values_line(alloc, store, functions, &session)?;
+            let lines = edited_all(alloc, store, functions, &mut session, opening, edits)?;
             Ok(Out {
                 lines,
                 last: Some(session.tree()),

@@ -18,6 +18,10 @@ pub struct Line {
     pub outcome: Outcome,
     /// The reply's text without its number.
     pub body: Bytes,
+    /// How many bodies ran for it, where it has values; else 0.
+    pub bodies: u64,
+    /// How many cells the store had made then, where it has values; else 0.
+    pub cells: u32,
 }
 
 /// What a session was answered.

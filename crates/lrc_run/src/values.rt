@@ -1,4 +1,4 @@
-ghost use Rattle.std.specs.Prelude.{◌≡◌, [], ◌∷◌, ◌++◌, List, codes, IfOk, OnOk};
+ghost use Rattle.std.specs.Prelude.{◌≡◌, ◌<◌, ◌^◌, [], ◌∷◌, ◌++◌, List, length, codes, IfOk, OnOk};
 ghost use Rattle.std.specs.List.{AllByRecursion};
 ghost use Rattle.lrc_meaning.specs.Tree.{Tree};
 ghost use Rattle.lrc_meaning.specs.Grammar.{attrs_of_sort};
@@ -10,7 +10,7 @@ ghost use Rattle.lrc_call_meaning.specs.Forms.{values_cell};
 ghost use Rattle.lrc_call_meaning.specs.Spelled.{IsSpelled};
 ghost use Rattle.lrc_session.specs.Sessions.{grammar, IsOpen};
 ghost use Rattle.lrc_run.specs.Lines.{IsLine};
-ghost use Rattle.lrc_run.specs.Values.{Begins, Pushes};
+ghost use Rattle.lrc_run.specs.Values.{Begins, Pushes, HasCountsOf};
 
 use crate::reply::{Line, Outcome};
 use lrc_base::{Attr, Bytes, Memory};
@@ -113,7 +113,16 @@ fn values_text<St: Store>(
     Ok(Bytes::from_vec(text))
 }
 
-/// The line of a session's values.
+/// How many cells the store made.
+fn made<St: Store>(store: &St) -> u32
+    ensures count { result ≡ length (St.state store.now).made }
+    ensures small { length (St.state store.now).made < 2 ^ 32 }
+{
+    store.published()
+}
+
+/// The line of a session's values, with the counts of the bodies that ran for its tree and of the cells
+/// that the store made.
 pub(crate) fn values_line<St: Store>(
     alloc: Global,
     store: &mut St,
@@ -122,11 +131,15 @@ pub(crate) fn values_line<St: Store>(
 ) -> Result<Line, Memory>
     requires { (t : Tree) × (vs : List Tree) × IsOpen functions.now (St.state store.old) session.now t vs }
     ensures line { (t : Tree) (vs : List Tree) → IsOpen functions.now (St.state store.old) session.now t vs → IfOk result (λ line. IsLine (grammar functions.now) (answer.values vs) line) }
+    ensures counts { IfOk result (λ line. HasCountsOf (St.state store.new) session.now line) }
     ensures reads { Reads (St.state store.old) (St.state store.new) }
     ensures same_meaning { St.meaning store.new ≡ St.meaning store.old }
 {
+    let body = values_text(alloc, store, &functions.plan.grammar, session.values())?;
     Ok(Line {
         outcome: Outcome::Values,
-        body: values_text(alloc, store, &functions.plan.grammar, session.values())?,
+        body,
+        bodies: session.runs(),
+        cells: made(store),
     })
 }

@@ -7,6 +7,7 @@ use Rattle.lrc_run.specs.Lines.{IsLine, reply_of}
 use Rattle.lrc_run.specs.Playing.{is_fitting_put}
 use Rattle.lrc_run.specs.Editing.{IsEdited}
 use Rattle.lrc_run.proofs.GrowLemmas.{some_read, some_then}
+use Rattle.lrc_run.proofs.LineLemmas.{both_ok}
 use Rattle.lrc_run.proofs.EditLemmas.{was_put, was_refused}
 use Rattle.lrc_run.proofs.editing.edited.Goals as goal
 
@@ -19,11 +20,11 @@ returns-in-Ok-clause-edited g c t vs opened =
     let new = tree c.in-Put.term in
     let fit = subst (λ e. IsTrue (is_fitting_put f.plan.grammar.prods e)) c.in-Put.is c.requires.put in
     let edits = c.in-Ok.ensures.edits t vs opened in
-    IfOk-weaker c.values_line.result _ _
-    (λ line is.
+    both_ok c.values_line.result _ _ _
+    (λ line is counts.
     subst (λ edit. IsEdited f s u c.args.session.now.depth t edit c.put.new.self line) (sym (ap change c.in-Put.is))
-    (was_put f s (g.St.Store.state c.put.new.store) t vs c.args.session.now c.put.new.self steps new c.in-Put.kind fit line u c.in-Ok.field-0 edits c.values_line.ensures.reads is))
-    (c.values_line.ensures.line (replaced t steps new) edits.answers.1.values edits.answers.1.is_open)
+    (was_put f s (g.St.Store.state c.put.new.store) t vs c.args.session.now c.put.new.self steps new c.in-Put.kind fit line u c.in-Ok.field-0 edits c.put.ensures.whole (c.in-Ok.ensures.counted t vs opened) c.in-Ok.ensures.runs c.values_line.ensures.reads counts is))
+    (c.values_line.ensures.line (replaced t steps new) edits.answers.1.values edits.answers.1.is_open) c.values_line.ensures.counts
 
 pub returns-in-Ok-clause-gains : goal.returns-in-Ok-clause-gains
 returns-in-Ok-clause-gains g c =

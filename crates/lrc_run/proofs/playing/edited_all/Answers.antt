@@ -1,30 +1,26 @@
 use Rattle.std.proofs.Common.{[], ◌∷◌, ◌++◌, List, refl, sym, ap, ◌∙◌, subst}
 use Rattle.lrc_run.specs.declared.reply.Line.{Line}
 use Rattle.lrc_run.specs.Editing.{AreEdited}
-use Rattle.lrc_run.proofs.GrowLemmas.{some_read, some_then}
+use Rattle.lrc_run.proofs.GrowLemmas.{some_same, some_then}
 use Rattle.lrc_run.proofs.SessionLemmas.{none_edited, one_edit_more}
 use Rattle.lrc_run.proofs.playing.edited_all.Goals as goal
 
-pub returns-in_err-values_line-clause-gains : goal.returns-in_err-values_line-clause-gains
-returns-in_err-values_line-clause-gains g c = some_read (g.St.Store.state c.args.store.now) (g.St.Store.state c.values_line.new.store) c.values_line.ensures.reads
-
 pub returns-in_err-push-clause-gains : goal.returns-in_err-push-clause-gains
-returns-in_err-push-clause-gains g c = some_read (g.St.Store.state c.args.store.now) (g.St.Store.state c.values_line.new.store) c.values_line.ensures.reads
+returns-in_err-push-clause-gains g c = some_same (g.St.Store.state c.args.store.now)
 
 pub edits-init : goal.edits-init
 edits-init g c =
     let f = c.args.functions.now in
     let s = g.St.Store.state c.args.store.now in
-    let t = g.St.Store.state c.values_line.new.store in
-    let line = c.in_ok-values_line.field-0 in
+    let opening = c.args.opening in
     let limit = c.args.session.now.depth in
     record {
       edited = λ before vs opened.
-          subst (AreEdited f s t limit before vs [] c.args.session.now) (sym (c.in_ok-push.ensures.ok ∙ ap (λ (ls : List Line). ls ++ line ∷ []) c.new-lines.ensures))
-          (none_edited f s t limit before vs c.args.session.now line opened c.values_line.ensures.reads (c.in_ok-values_line.ensures.line before vs opened));
+          subst (AreEdited f s s limit before [] c.args.session.now opening) (sym (c.in_ok-push.ensures.ok ∙ ap (λ (ls : List Line). ls ++ opening ∷ []) c.new-lines.ensures))
+          (none_edited f s limit before vs c.args.session.now opening opened);
       depth = refl;
-      gains = some_read s t c.values_line.ensures.reads;
-      same_meaning = c.values_line.ensures.same_meaning;
+      gains = some_same s;
+      same_meaning = refl;
     }
 
 pub returns-in_err-edited-clause-gains : goal.returns-in_err-edited-clause-gains
@@ -44,8 +40,8 @@ edits-preserved g c =
     record {
       edited = λ before vs opened.
           let so_far = c.edits.invariant.edited before vs opened in
-          one_edit_more f s t u c.args.session.now.depth c.edits.session.depth before vs c.args.edits.now c.edits.edit-index c.edit-item.result c.edits.session c.edited.new.session c.push-in-edits.new.self
-          c.edits.lines c.in_ok-edited.field-0 c.edits-test.true c.edit-item.is c.in_ok-push-2.ensures.ok c.edits.invariant.depth so_far c.edited.ensures.gains
+          one_edit_more f s t u c.args.session.now.depth c.edits.session.depth before c.args.edits.now c.edits.edit-index c.edit-item.result c.edits.session c.edited.new.session c.args.opening
+          c.push-in-edits.new.self c.edits.lines c.in_ok-edited.field-0 c.edits-test.true c.edit-item.is c.in_ok-push-2.ensures.ok c.edits.invariant.depth so_far c.edited.ensures.gains
           (c.in_ok-edited.ensures.edited so_far.after so_far.own so_far.is_open);
       depth = c.edited.ensures.depth ∙ c.edits.invariant.depth;
       gains = some_then s t u c.edits.invariant.gains c.edited.ensures.gains;

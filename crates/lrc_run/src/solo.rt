@@ -1,0 +1,43 @@
+ghost use Rattle.std.specs.Prelude.{◌≡◌, ◌≤◌, ◌^◌, IsTrue, IfOk};
+ghost use Rattle.lrc_meaning.specs.Tree.{tree};
+ghost use Rattle.lrc_order_meaning.specs.Ordered.{HasOrder};
+ghost use Rattle.lrc_grammar.specs.Grammar.{grammar_of};
+ghost use Rattle.lrc_plain.specs.Plain.{state_of};
+ghost use Rattle.lrc_session.specs.Sessions.{IsStartTree};
+ghost use Rattle.lrc_run.specs.Playing.{are_fitting_puts};
+ghost use Rattle.lrc_run.specs.Solo.{IsSolo};
+
+use crate::playing::play;
+use crate::reply::Out;
+use lrc_base::{Memory, Script};
+use lrc_bodies::VisitMeaning;
+use lrc_functions::Functions;
+use lrc_plain::PlainStore;
+use lrc_store::Store;
+use std::alloc::Global;
+
+/// Plays a session of puts over a store of its own with so many rows, from 1 to 16,777,216, and hands the
+/// store back.
+///
+/// # Errors
+///
+/// Want of memory.
+pub fn run_solo(
+    alloc: Global,
+    functions: &Functions,
+    script: &Script,
+    rows: u32,
+    depth: u32,
+) -> Result<(Out, PlainStore<VisitMeaning>), Memory>
+    requires some { 1 ≤ rows }
+    requires limit { rows ≤ 2 ^ 24 }
+    requires opening { IsStartTree functions.now (tree script.now.tree) }
+    requires puts { IsTrue (are_fitting_puts functions.now.plan.grammar.prods script.now.edits) }
+    ensures solo { HasOrder (grammar_of functions.now.plan.grammar) functions.now.plan.parts → IfOk result (λ run. IsSolo functions.now depth rows script.now run.0 (state_of run.1)) }
+{
+    let meaning = VisitMeaning::new(alloc, functions.plan())?;
+    let mut store = PlainStore::with_meaning(alloc, meaning, rows)?;
+    let _made = store.published();
+    let out = play(alloc, &mut store, functions, depth, script)?;
+    Ok((out, store))
+}
