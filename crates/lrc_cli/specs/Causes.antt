@@ -1,5 +1,5 @@
 -- Why a job is refused, in the order in which faults are looked for: its text, its acceptance, for a run the rows of its
--- sessions and what is not built yet, and then the ordered test.
+-- sessions, with counts their number, and what is not built yet, and then the ordered test.
 use Rattle.std.specs.Prelude.{◌≡◌, ◌≢◌, ◌⊎◌, ℕ, ◌*◌, ◌<◌, ◌≤◌, Bool, true, false, List, [], length, Some, slice_get}
 use Rattle.lrc_base.specs.declared.limits.TheConstants.{ROW_LIMIT}
 use Rattle.lrc_base.specs.declared.job.Job.{Job}
@@ -64,18 +64,26 @@ pub data IsUnordered (g : Grammar) : Failure → Type 0 where
 
 -- nothing of the command is built yet
 abbrev pub IsUnbuiltVerb : Verb → Type 0
-IsUnbuiltVerb v = (v ≡ verb.Solo) ⊎ (v ≡ verb.Gen)
+IsUnbuiltVerb v = v ≡ verb.Gen
 
 abbrev pub IsUnbuilt : Command → Type 0
 IsUnbuilt command = IsUnbuiltVerb command.verb
 
 -- something of it is
 abbrev pub IsBuiltVerb : Verb → Type 0
-IsBuiltVerb v = (v ≡ verb.Run) ⊎ ((v ≡ verb.Check) ⊎ (v ≡ verb.Plan))
+IsBuiltVerb v = (v ≡ verb.Run) ⊎ ((v ≡ verb.Solo) ⊎ ((v ≡ verb.Check) ⊎ (v ≡ verb.Plan)))
 
--- the command reads nothing: one of which nothing is built, and `gen`, which makes its own job
+-- the command reads nothing: `gen`, which makes its own job
 abbrev pub ReadsNothing : Verb → Type 0
-ReadsNothing v = IsUnbuiltVerb v ⊎ (v ≡ verb.Gen)
+ReadsNothing v = v ≡ verb.Gen
+
+-- the command runs the sessions of a job
+abbrev pub RunsSessions : Verb → Type 0
+RunsSessions v = (v ≡ verb.Run) ⊎ (v ≡ verb.Solo)
+
+-- it runs so many
+abbrev pub TakesSessions : Verb → ℕ → Type 0
+TakesSessions v sessions = v ≡ verb.Solo → sessions ≡ 1
 
 -- the command tells of any job whether its grammar is ordered
 abbrev pub TellsOrder : Command → Type 0
@@ -85,12 +93,14 @@ TellsOrder command = (command.verb ≡ verb.Check) ⊎ (command.verb ≡ verb.Pl
 pub data IsCause (command : Command) (input : List ℕ) : Failure → Type 0 where
   no_job : (fault : JobFault) → fault ≢ text.Memory → FirstTextFault input fault → ((job : Job) → ¬ Denotes input job) → IsCause command input (f.Text fault)
   not_accepted : (job : Job) (fault : AcceptFault) → fault ≢ accept.Memory → Denotes input job → IsFaultOf job fault → IsCause command input (f.Accept fault)
-  too_many_rows : (g : Grammar) (sessions : List Session) → IsAccepted input g sessions → command.verb ≡ verb.Run
+  too_many_rows : (g : Grammar) (sessions : List Session) → IsAccepted input g sessions → RunsSessions command.verb
       → row_limit < command.rows * length sessions → IsCause command input f.TooManyRows
-  no_run : (g : Grammar) (sessions : List Session) → IsAccepted input g sessions → command.verb ≡ verb.Run → command.rows * length sessions ≤ row_limit
-      → ((opening : Tree) (changes : List Change) → ¬ IsBuilt input g opening changes) → IsCause command input f.NotBuilt
+  not_one_session : (g : Grammar) (sessions : List Session) → IsAccepted input g sessions → command.verb ≡ verb.Solo → command.rows * length sessions ≤ row_limit
+      → length sessions ≢ 1 → IsCause command input f.NotOneSession
+  no_run : (g : Grammar) (sessions : List Session) → IsAccepted input g sessions → RunsSessions command.verb → command.rows * length sessions ≤ row_limit
+      → TakesSessions command.verb (length sessions) → ((opening : Tree) (changes : List Change) → ¬ IsBuilt input g opening changes) → IsCause command input f.NotBuilt
   not_ordered : (g : Grammar) (sessions : List Session) (cycle : Cycle) → IsAccepted input g sessions → TellsOrder command → IsCycle g cycle
       → IsCause command input (f.NotOrdered cycle)
-  not_ordered_to_run : (g : Grammar) (opening : Tree) (changes : List Change) (cycle : Cycle) → command.verb ≡ verb.Run → command.rows ≤ row_limit → IsBuilt input g opening changes
+  not_ordered_to_run : (g : Grammar) (opening : Tree) (changes : List Change) (cycle : Cycle) → RunsSessions command.verb → command.rows ≤ row_limit → IsBuilt input g opening changes
       → IsCycle g cycle → IsCause command input (f.NotOrdered cycle)
   no_memory : IsCause command input f.Memory

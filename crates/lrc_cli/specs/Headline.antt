@@ -1,5 +1,5 @@
--- What a run is: from the bytes of a job to the text of its replies.
-use Rattle.std.specs.Prelude.{◌≡◌, ◌≢◌, ℕ, Bool, true, false, IsTrue, List, [], ◌∷◌, ◌++◌, Option, Ok}
+-- What a run is, alone and with counts: from the bytes of a job to the text of its replies.
+use Rattle.std.specs.Prelude.{◌≡◌, ◌≢◌, ℕ, Bool, true, false, IsTrue, List, [], ◌∷◌, ◌++◌, Option, Ok, codes, decimal}
 use Rattle.std.specs.List.{list_all, AllByRecursion}
 use Rattle.lrc_base.specs.declared.grammar.Attr.{Attr}
 use Rattle.lrc_base.specs.declared.grammar.Kind.TheVariants as k
@@ -7,12 +7,13 @@ use Rattle.lrc_base.specs.declared.job.Job.{Job}
 use Rattle.lrc_meaning.specs.Tree.{Tree, same_kind}
 use Rattle.lrc_meaning.specs.Grammar.{Grammar, attrs_of_sort}
 use Rattle.lrc_meaning.specs.Editing.{Change, put, copy, show, forget, Reply, full, Attempt, ReplyRun, never_full}
-use Rattle.lrc_meaning.specs.Text.{unparsed, run_text}
+use Rattle.lrc_meaning.specs.Text.{unparsed, line_feed, finals_text, run_text}
 use Rattle.lrc_reader.specs.Denotes.{Denotes}
 use Rattle.lrc_job.specs.Job.{Session, HasSessions}
 use Rattle.lrc_order_meaning.specs.Ordered.{IsOrdered, Partitions, ArePartitions}
 use Rattle.lrc_plan.specs.Text.{parts_text, plan_text}
 use Rattle.lrc_run.specs.Rows.{RowsRunOut}
+use Rattle.lrc_run.specs.Counts.{Counts, IsCounted, counted_lines}
 use Rattle.lrc_words.specs.declared.command.Verb.{Verb}
 use Rattle.lrc_words.specs.declared.command.Verb.TheVariants as verb
 
@@ -68,11 +69,10 @@ pub record IsPlanOf (bytes text : List ℕ) : Type 0 where
   pub has : HasPartitions bytes grammar parts
   pub prints : text ≡ parts_text grammar parts.sorts ++ plan_text grammar parts.sorts
 
--- The text is that of a run of the job, whose trees have at most `depth` nodes on their longest path: each reply is the
--- root's synthesised attributes in the attribution of the session's tree after the edit, or the refusal that the editing
--- rules name, and then the final line of the last tree. What a session has demanded, by the grammar and its partitions,
--- says when `full` may come.
-pub record IsRunUnder (full_may_come : Grammar → Partitions → List Attempt → Tree → Type 0) (bytes : List ℕ) (depth : ℕ) (text : List ℕ) : Type 0 where
+-- A run of the job, whose trees have at most `depth` nodes on their longest path: each reply is the root's synthesised
+-- attributes in the attribution of the session's tree after the edit, or the refusal that the editing rules name. What a
+-- session has demanded, by the grammar and its partitions, says when `full` may come.
+pub record Run (full_may_come : Grammar → Partitions → List Attempt → Tree → Type 0) (bytes : List ℕ) (depth : ℕ) : Type 0 where
   pub grammar : Grammar
   pub parts : Partitions
   pub opening : Tree
@@ -83,11 +83,34 @@ pub record IsRunUnder (full_may_come : Grammar → Partitions → List Attempt �
   pub last : Option Tree
   pub attempts : List Attempt
   pub runs : ReplyRun grammar depth (unparsed grammar.prods) (full_may_come grammar parts) opening changes replies last attempts
-  pub prints : text ≡ run_text grammar (replies ∷ []) (last ∷ [])
 
--- a run where `full` comes only once so many rows are fewer than the cells that are demanded
+-- The text is that of a run: its replies, and then the final line of the last tree.
+pub record IsRunUnder (full_may_come : Grammar → Partitions → List Attempt → Tree → Type 0) (bytes : List ℕ) (depth : ℕ) (text : List ℕ) : Type 0 where
+  pub run : Run full_may_come bytes depth
+  pub prints : text ≡ run_text run.grammar (run.replies ∷ []) (run.last ∷ [])
+
+-- the block of the one session, with counts up to the first reply behind which none are printed, and then its final line
+abbrev pub solo_text : Grammar → List Reply → List Counts → Option Tree → List ℕ
+solo_text grammar replies counts last =
+    codes "session " ++ (decimal 1 ++ (line_feed ++ (counted_lines grammar 0 replies counts ++ finals_text (last ∷ []) 1 (last ∷ []))))
+
+-- The text is that of a run with its counts: of the calls that no earlier attempt made, and of the different cells that are
+-- demanded so far.
+pub record IsSoloUnder (full_may_come : Grammar → Partitions → List Attempt → Tree → Type 0) (bytes : List ℕ) (depth : ℕ) (text : List ℕ) : Type 0 where
+  pub run : Run full_may_come bytes depth
+  pub counts : List Counts
+  pub counted : IsCounted run.grammar run.parts.sorts depth run.opening run.changes run.replies counts
+  pub prints : text ≡ solo_text run.grammar run.replies counts run.last
+
+-- `full` comes only once so many rows are fewer than the cells that are demanded
+abbrev pub runs_out : ℕ → ℕ → Grammar → Partitions → List Attempt → Tree → Type 0
+runs_out rows depth grammar parts = RowsRunOut grammar parts.sorts depth rows
+
 abbrev pub IsRunOf : List ℕ → ℕ → ℕ → List ℕ → Type 0
-IsRunOf bytes rows depth text = IsRunUnder (λ grammar parts. RowsRunOut grammar parts.sorts depth rows) bytes depth text
+IsRunOf bytes rows depth text = IsRunUnder (runs_out rows depth) bytes depth text
+
+abbrev pub IsSoloOf : List ℕ → ℕ → ℕ → List ℕ → Type 0
+IsSoloOf bytes rows depth text = IsSoloUnder (runs_out rows depth) bytes depth text
 
 -- no reply is `full`
 abbrev pub HasRoom : List Reply → Type 0
@@ -100,15 +123,19 @@ IsRunWithRoom bytes depth text = IsRunUnder (λ grammar parts. never_full) bytes
 -- What a command prints for its input, with so many rows and this depth.
 abbrev pub IsOutputOf : Verb → ℕ → ℕ → List ℕ → List ℕ → Type 0
 IsOutputOf verb.Run rows depth bytes text = IsRunOf bytes rows depth text
-IsOutputOf verb.Solo rows depth bytes text = ⊥
+IsOutputOf verb.Solo rows depth bytes text = IsSoloOf bytes rows depth text
 IsOutputOf verb.Check rows depth bytes text = IsPartsOf bytes text
 IsOutputOf verb.Plan rows depth bytes text = IsPlanOf bytes text
 IsOutputOf verb.Gen rows depth bytes text = ⊥
 
+-- the bytes are a job that can be run, whose grammar is ordered
+abbrev pub CanBeRun : List ℕ → Type 0
+CanBeRun bytes = (grammar : Grammar) × (opening : Tree) × (changes : List Change) × IsBuilt bytes grammar opening changes × IsOrdered grammar []
+
 -- The bytes are a job for which the command has something to print.
 abbrev pub IsBuiltFor : Verb → List ℕ → Type 0
-IsBuiltFor verb.Run bytes = (grammar : Grammar) × (opening : Tree) × (changes : List Change) × IsBuilt bytes grammar opening changes × IsOrdered grammar []
-IsBuiltFor verb.Solo bytes = ⊥
+IsBuiltFor verb.Run bytes = CanBeRun bytes
+IsBuiltFor verb.Solo bytes = CanBeRun bytes
 IsBuiltFor verb.Check bytes = (grammar : Grammar) × (sessions : List Session) × IsAccepted bytes grammar sessions × IsOrdered grammar []
 IsBuiltFor verb.Plan bytes = (grammar : Grammar) × (sessions : List Session) × IsAccepted bytes grammar sessions × IsOrdered grammar []
 IsBuiltFor verb.Gen bytes = ⊥

@@ -1,38 +1,31 @@
-ghost use Rattle.std.specs.Prelude.{◌≡◌, ◌↔◌, ◌<◌, ◌≤◌, ◌*◌, ℕ, IsTrue, List, map, IfOk, IfErr, MatchOption};
+ghost use Rattle.std.specs.Prelude.{◌≡◌, ◌≢◌, ◌↔◌, ◌<◌, ◌*◌, ℕ, IsTrue, List, map, IfOk, IfErr, MatchBool, MatchOption};
 ghost use Rattle.std.specs.List.{list_all};
-ghost use Rattle.lrc_base.specs.declared.limits.TheConstants.{ROW_LIMIT};
 ghost use Rattle.lrc_base.specs.declared.job.Script as base;
 ghost use Rattle.lrc_base.specs.declared.job.Edit as base-edit;
-ghost use Rattle.lrc_meaning.specs.Tree.{tree};
 ghost use Rattle.lrc_meaning.specs.Editing.{change};
-ghost use Rattle.lrc_order_meaning.specs.Ordered.{HasOrder};
 ghost use Rattle.lrc_grammar.specs.Grammar.{grammar_of};
 ghost use Rattle.lrc_job.specs.Job.{session};
-ghost use Rattle.lrc_session.specs.Sessions.{IsStartTree};
-ghost use Rattle.lrc_run.specs.Playing.{are_fitting_puts};
 ghost use Rattle.lrc_words.specs.declared.command.Command.{Command};
 ghost use Rattle.lrc_words.specs.declared.command.Verb.TheVariants as v;
 ghost use Rattle.lrc_words.specs.CommandLine.{IsWithinRanges};
-ghost use Rattle.lrc_cli.specs.Headline.{is_put, is_number, IsAccepted, HasRoom, IsRunOf, IsRunWithRoom};
-ghost use Rattle.lrc_cli.specs.Causes.{row_limit, IsUnordered, IsCause};
-ghost use Rattle.lrc_cli.specs.Running.{IsBuiltSession, IsSessionText};
+ghost use Rattle.lrc_cli.specs.Headline.{is_put, is_number, IsAccepted, HasRoom, IsRunOf, IsRunWithRoom, IsOutputOf};
+ghost use Rattle.lrc_cli.specs.Causes.{row_limit, RunsSessions, TakesSessions, IsUnordered, IsCause};
+ghost use Rattle.lrc_cli.specs.Printed.{is_counted};
+ghost use Rattle.lrc_cli.specs.Running.{IsBuiltSession};
 
 use crate::job::accepted_job;
 use crate::order::plan_of;
 use crate::text::session_text;
 use lrc_base::limits::ROW_LIMIT;
-use lrc_base::{Attr, Edit, Kind, Memory, Script};
-use lrc_bodies::VisitMeaning;
+use lrc_base::{Attr, Edit, Kind, Script};
 use lrc_failures::Failure;
 use lrc_functions::Functions;
 use lrc_grammar::attrs_of_sort;
 use lrc_job::Accepted;
 use lrc_laws::attribution_is_unique;
-use lrc_plain::PlainStore;
 use lrc_reader::one_job;
-use lrc_run::{play, runs_out_of_rows};
-use lrc_store::Store;
-use lrc_words::Command;
+use lrc_run::run_solo;
+use lrc_words::{Command, Verb};
 use std::alloc::Global;
 
 /// Whether sessions of so many rows each have more than a table has.
@@ -83,30 +76,20 @@ fn built_session(accepted: &Accepted) -> Option<&Script>
     }
 }
 
-/// The text of a run of a session of puts over a store of its own.
-fn played(
-    alloc: Global,
-    functions: &Functions,
-    rows: u32,
-    depth: u32,
-    script: &Script,
-) -> Result<Vec<u8>, Memory>
-    requires some { 1 ≤ rows }
-    requires limit { rows ≤ ROW_LIMIT }
-    requires order { HasOrder (grammar_of functions.now.plan.grammar) functions.now.plan.parts }
-    requires opening { IsStartTree functions.now (tree script.now.tree) }
-    requires puts { IsTrue (are_fitting_puts functions.now.plan.grammar.prods script.now.edits) }
-    ensures { IfOk result (λ text. IsSessionText functions.now rows depth script.now text.items) }
+/// Whether the command runs one session, and there is another number of them.
+fn takes_others(verb: Verb, sessions: usize) -> bool
+    ensures { MatchBool result ((verb ≡ v.Solo) × (sessions ≢ 1)) (TakesSessions verb sessions) }
 {
-    runs_out_of_rows();
-    let meaning = VisitMeaning::new(alloc, functions.plan())?;
-    let mut store = PlainStore::with_meaning(alloc, meaning, rows)?;
-    let _made = store.published();
-    let out = play(alloc, &mut store, functions, depth, script)?;
-    session_text(alloc, &out)
+    verb == Verb::Solo && sessions != 1
 }
 
-/// The text of a run of a session by the plan of its grammar.
+fn is_counted(verb: Verb) -> bool
+    ensures { result ≡ is_counted verb }
+{
+    matches!(verb, Verb::Solo)
+}
+
+/// The text of a run of a session by the plan of its grammar, over a store of its own.
 ///
 /// # Errors
 ///
@@ -117,32 +100,38 @@ fn session_run(
     accepted: &Accepted,
     script: &Script,
 ) -> Result<Vec<u8>, Failure>
+    requires runs { RunsSessions command.now.verb }
     requires within { IsWithinRanges command.now }
     requires session { IsBuiltSession (grammar_of accepted.now.grammar) accepted.now.sessions script.now }
-    ensures text { IfOk result (λ text. (bytes : List ℕ) → IsAccepted bytes (grammar_of accepted.now.grammar) (map session accepted.now.sessions) → IsRunOf bytes command.now.rows command.now.depth text.items) }
+    ensures output { IfOk result (λ text. (bytes : List ℕ) → IsAccepted bytes (grammar_of accepted.now.grammar) (map session accepted.now.sessions) → IsOutputOf command.now.verb command.now.rows command.now.depth bytes text.items) }
     ensures fault { IfErr result (IsUnordered (grammar_of accepted.now.grammar)) }
 {
     let plan = plan_of(alloc, &accepted.grammar)?;
     let functions = Functions::new(alloc, plan)?;
-    Ok(played(alloc, &functions, command.rows, command.depth, script)?)
+    let (out, _store) = run_solo(alloc, &functions, script, command.rows, command.depth)?;
+    Ok(session_text(alloc, &out, is_counted(command.verb))?)
 }
 
-/// The text of a run of a job.
+/// The text of a run of a job, with counts or without.
 ///
 /// # Errors
 ///
-/// The first fault of the job, then that there are too many rows, that the job is not built, and that
-/// its grammar is not ordered.
+/// The first fault of the job, then that there are too many rows, that there is another number of sessions
+/// than the command runs, that the job is not built, and that its grammar is not ordered.
 pub fn run_text(alloc: Global, command: &Command, bytes: &[u8]) -> Result<Vec<u8>, Failure>
-    requires run { command.now.verb ≡ v.Run }
+    requires runs { RunsSessions command.now.verb }
     requires within { IsWithinRanges command.now }
-    ensures text { IfOk result (λ text. IsRunOf bytes.now command.now.rows command.now.depth text.items) }
+    ensures output { IfOk result (λ text. IsOutputOf command.now.verb command.now.rows command.now.depth bytes.now text.items) }
     ensures cause { IfErr result (IsCause command.now bytes.now) }
 {
     one_job();
     let accepted = accepted_job(alloc, bytes)?;
-    if are_rows_too_many(command.rows, accepted.sessions.len()) {
+    let sessions = accepted.sessions.len();
+    if are_rows_too_many(command.rows, sessions) {
         return Err(Failure::TooManyRows);
+    }
+    if takes_others(command.verb, sessions) {
+        return Err(Failure::NotOneSession);
     }
     let Some(script) = built_session(&accepted) else {
         return Err(Failure::NotBuilt);
@@ -154,7 +143,7 @@ pub fn run_text(alloc: Global, command: &Command, bytes: &[u8]) -> Result<Vec<u8
 /// path, whatever the rows: the bytes denote one job, and its session has one list of replies.
 pub fn one_text()
     ensures one { (bytes text other : List ℕ) (depth : ℕ) → IsRunWithRoom bytes depth text → IsRunWithRoom bytes depth other → text ≡ other }
-    ensures room { (bytes text : List ℕ) (rows depth : ℕ) (run : IsRunOf bytes rows depth text) → HasRoom run.replies → IsRunWithRoom bytes depth text }
+    ensures room { (bytes text : List ℕ) (rows depth : ℕ) (is : IsRunOf bytes rows depth text) → HasRoom is.run.replies → IsRunWithRoom bytes depth text }
 {
     one_job();
     attribution_is_unique();

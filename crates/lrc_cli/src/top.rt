@@ -49,8 +49,8 @@ fn is_built(verb: Verb) -> bool
     ensures { MatchBool result (IsBuiltVerb verb) (IsUnbuiltVerb verb) }
 {
     match verb {
-        Verb::Run | Verb::Check | Verb::Plan => true,
-        Verb::Solo | Verb::Gen => false,
+        Verb::Run | Verb::Solo | Verb::Check | Verb::Plan => true,
+        Verb::Gen => false,
     }
 }
 
@@ -66,10 +66,10 @@ fn output(alloc: Global, command: &Command, input: &[u8]) -> Result<Bytes, Failu
     ensures cause { IfErr result (IsCause command.now input.now) }
 {
     match command.verb {
-        Verb::Run => Ok(List::from_vec(run_text(alloc, command, input)?)),
+        Verb::Run | Verb::Solo => Ok(List::from_vec(run_text(alloc, command, input)?)),
         Verb::Check => partitions(alloc, command, input),
         Verb::Plan => sequences(alloc, command, input),
-        Verb::Solo | Verb::Gen => unreachable!(),
+        Verb::Gen => unreachable!(),
     }
 }
 
@@ -114,7 +114,8 @@ fn answered<S: Source, O: Sink>(
 ///
 /// The session's opening and each of its edits are answered by the root's synthesised attributes in
 /// the attribution of its tree as it is then, or by the refusal that the editing rules name; `full` only
-/// once its rows are fewer than the cells that it has demanded.
+/// once its rows are fewer than the cells that it has demanded. `solo` tells besides how many visits no
+/// earlier edit made, and how many cells were demanded so far.
 pub fn lrc<R: Threads + Sync, S: Source, O: Sink, E: Sink>(
     rt: &R,
     alloc: Global,
@@ -125,7 +126,7 @@ pub fn lrc<R: Threads + Sync, S: Source, O: Sink, E: Sink>(
 ) -> u8
     ensures done { result ≡ 0 → Done words.now (S.left source.old) (S.left source.new) (O.held out.old) (O.held out.new) }
     ensures one_text { (bytes text other : List ℕ) (depth : ℕ) → IsRunWithRoom bytes depth text → IsRunWithRoom bytes depth other → text ≡ other }
-    ensures room { (bytes text : List ℕ) (rows depth : ℕ) (run : IsRunOf bytes rows depth text) → HasRoom run.replies → IsRunWithRoom bytes depth text }
+    ensures room { (bytes text : List ℕ) (rows depth : ℕ) (is : IsRunOf bytes rows depth text) → HasRoom is.run.replies → IsRunWithRoom bytes depth text }
     ensures usage { result ≡ 2 → AreRefused (texts words.now) ⊎ (verb_of (texts words.now) ≡ None) }
     ensures unread { result ≡ 2 → Keeps (S.left source.old) (S.left source.new) }
     ensures command { result ≢ 2 → result ≢ 7 → (command : Command) × Says (texts words.now) command }
