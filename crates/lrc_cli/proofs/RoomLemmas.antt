@@ -37,17 +37,21 @@ module _ (g : Grammar) (limit : ℕ) (text_of : Tree → List ℕ) (may_come : L
   session opening cs rs last all (opens_too_deep attempt) n = opens_too_deep (attempted _ opening opening _ opening attempt n.0)
   session opening cs rs last all (opens_full attempt) n = absurd (n.0 refl)
 
-pub with_room : (bytes text : List ℕ) (rows depth : ℕ) (r : IsRunOf bytes rows depth text) → HasRoom r.replies → IsRunWithRoom bytes depth text
-with_room bytes text rows depth r n = record {
-  grammar = r.grammar;
-  parts = r.parts;
-  opening = r.opening;
-  changes = r.changes;
-  built = r.built;
-  ordered = r.ordered;
-  replies = r.replies;
-  last = r.last;
-  attempts = r.attempts;
-  runs = session r.grammar depth (unparsed r.grammar.prods) (RowsRunOut r.grammar r.parts.sorts depth rows) r.opening r.changes r.replies r.last r.attempts r.runs n;
-  prints = r.prints;
-}
+pub with_room : (bytes text : List ℕ) (rows depth : ℕ) (is : IsRunOf bytes rows depth text) → HasRoom is.run.replies → IsRunWithRoom bytes depth text
+with_room bytes text rows depth is n =
+    let r = is.run in
+    record {
+      run = record {
+        grammar = r.grammar;
+        parts = r.parts;
+        opening = r.opening;
+        changes = r.changes;
+        built = r.built;
+        ordered = r.ordered;
+        replies = r.replies;
+        last = r.last;
+        attempts = r.attempts;
+        runs = session r.grammar depth (unparsed r.grammar.prods) (RowsRunOut r.grammar r.parts.sorts depth rows) r.opening r.changes r.replies r.last r.attempts r.runs n;
+      };
+      prints = is.prints;
+    }

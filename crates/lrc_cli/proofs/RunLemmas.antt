@@ -1,8 +1,9 @@
 -- From a session that can be run to its replies, and to the text of the run.
-use Rattle.std.proofs.Common.{◌≡◌, ℕ, Bool, true, false, ◌<◌, ◌≤◌, IsTrue, List, [], ◌∷◌, map, Option, Result, Ok, Err, IfOk, inl, inr, subst, sym, ap, refl, ◌∙◌, arith}
+use Rattle.std.proofs.Common.{◌≡◌, ◌≢◌, ℕ, ◌*◌, length, MatchBool, Bool, true, false, ◌<◌, ◌≤◌, IsTrue, List, [], ◌∷◌, map, Option, Result, Ok, Err, IfOk, inl, inr, subst, sym, ap, refl, ◌∙◌, arith}
 use Rattle.std.specs.List.{list_all}
 use Rattle.std.proofs.lemmas.Bool.{and_parts, and_from}
 use Rattle.std.proofs.lemmas.Bool.Decides.{leb_tells}
+use Rattle.std.proofs.lemmas.List.{length-map}
 use Rattle.std.proofs.lemmas.List.Folds.{list_all-map}
 use Rattle.lrc_base.specs.declared.grammar.Kind.TheVariants as k
 use Rattle.lrc_base.specs.declared.grammar.Production.{Production}
@@ -18,6 +19,8 @@ use Rattle.lrc_order_meaning.specs.Ordered.{Partitions, HasOrder}
 use Rattle.lrc_order_meaning.proofs.OrderLemmas.{has_order}
 use Rattle.lrc_laws.specs.Laws.{AttributionsAreUnique}
 use Rattle.lrc_reader.specs.Denotes.{Denotes}
+use Rattle.lrc_words.specs.declared.command.Verb.{Verb}
+use Rattle.lrc_words.specs.declared.command.Verb.TheVariants as verb
 use Rattle.lrc_grammar.specs.Grammar.{grammar_of}
 use Rattle.lrc_job.specs.Fitting.{edit_fits, script_fits}
 use Rattle.lrc_job.specs.Job.{Session, session, HasSessions}
@@ -27,13 +30,15 @@ use Rattle.lrc_functions.specs.declared.functions.Functions.{Functions}
 use Rattle.lrc_store.specs.Standing.{Standing}
 use Rattle.lrc_session.specs.Sessions.{grammar}
 use Rattle.lrc_run.specs.declared.reply.Out.{Out}
-use Rattle.lrc_run.specs.Laws.{RunsOutOfRows}
-use Rattle.lrc_run.specs.Playing.{is_fitting_put, are_fitting_puts, Plays}
-use Rattle.lrc_cli.specs.Headline.{is_put, IsAccepted, IsBuilt, IsOrderedBy, HasPartitions, IsRunOf, IsRunWithRoom}
-use Rattle.lrc_cli.specs.Printed.{one_session}
-use Rattle.lrc_cli.specs.Running.{IsBuiltSession, IsSessionText}
+use Rattle.lrc_run.specs.Counts.{counts_of}
+use Rattle.lrc_run.specs.Solo.{IsSolo}
+use Rattle.lrc_run.specs.Playing.{is_fitting_put, are_fitting_puts}
+use Rattle.lrc_cli.specs.Headline.{is_put, IsAccepted, IsBuilt, IsOrderedBy, HasPartitions, Run, runs_out, IsRunWithRoom, IsOutputOf}
+use Rattle.lrc_cli.specs.Causes.{row_limit, RunsSessions, TakesSessions}
+use Rattle.lrc_cli.specs.Printed.{is_counted, one_session}
+use Rattle.lrc_cli.specs.Running.{IsBuiltSession}
 use Rattle.lrc_cli.proofs.OneLemmas.{one_session_of}
-use Rattle.lrc_cli.proofs.TextLemmas.{run_text-one_session}
+use Rattle.lrc_cli.proofs.TextLemmas.{run_text-one_session, solo_text-one_session}
 
 -- ---- the one session fits
 
@@ -152,33 +157,36 @@ module _ (functions : Functions) (plan : Plan) (g : Grammar) (of_plan : function
   pub puts_moved : (edits : List Edit) → IsTrue (are_fitting_puts g.prods edits) → IsTrue (are_fitting_puts functions.plan.grammar.prods edits)
   puts_moved edits fit = subst (λ (z : Grammar). IsTrue (are_fitting_puts z.prods edits)) (sym same_grammar) fit
 
-  -- the text of its session is that of a run of the job
-  pub run_of : (bytes text : List ℕ) (rows depth : ℕ) (script : Script) → IsOrderedBy g plan.parts → IsBuilt bytes g (tree script.tree) (map change script.edits)
-      → IsSessionText functions rows depth script text → IsRunOf bytes rows depth text
-  run_of bytes text rows depth script ordered b is = record {
-    grammar = grammar functions;
-    parts = functions.plan.parts;
-    opening = tree script.tree;
-    changes = map change script.edits;
-    built = subst (λ (z : Grammar). IsBuilt bytes z (tree script.tree) (map change script.edits)) (sym same_grammar) b;
-    ordered = subst (λ (z : Grammar). IsOrderedBy z functions.plan.parts) (sym same_grammar) (subst (λ (p : Plan). IsOrderedBy g p.parts) (sym of_plan) ordered);
-    replies = is.replies;
-    last = is.last;
-    attempts = is.attempts;
-    runs = is.runs;
-    prints = is.prints;
-  }
+  -- what is printed of its session is what the command prints of the job
+  pub output_of : (v : Verb) (bytes text : List ℕ) (rows depth : ℕ) (script : Script) (s : Standing) (out : Out) → RunsSessions v → IsOrderedBy g plan.parts → IsBuilt bytes g (tree script.tree) (map change script.edits)
+      → IsSolo functions depth rows script out s → text ≡ one_session (is_counted v) out → IsOutputOf v rows depth bytes text
+  output_of v bytes text rows depth script s out runs ordered b solo e = by v runs e
+    where
+      run : Run (runs_out rows depth) bytes depth
+      run = record {
+        grammar = grammar functions;
+        parts = functions.plan.parts;
+        opening = tree script.tree;
+        changes = map change script.edits;
+        built = subst (λ (z : Grammar). IsBuilt bytes z (tree script.tree) (map change script.edits)) (sym same_grammar) b;
+        ordered = subst (λ (z : Grammar). IsOrderedBy z functions.plan.parts) (sym same_grammar) (subst (λ (p : Plan). IsOrderedBy g p.parts) (sym of_plan) ordered);
+        replies = solo.replies;
+        last = solo.last;
+        attempts = solo.attempts;
+        runs = solo.runs;
+      }
 
--- the text of a session that was played over a store with so many rows
-pub text_of_played : RunsOutOfRows → (functions : Functions) (rows depth : ℕ) (script : Script) (s : Standing) (out : Out) (text : List ℕ) → s.quota ≡ rows → Plays functions depth s script out
-    → text ≡ one_session out → IsSessionText functions rows depth script text
-text_of_played law functions rows depth script s out text quota plays e = record {
-  replies = plays.replies;
-  last = plays.last;
-  attempts = plays.attempts;
-  runs = law functions depth rows (unparsed functions.plan.grammar.prods) s (tree script.tree) (map change script.edits) plays.replies plays.last plays.attempts quota plays.runs;
-  prints = e ∙ sym (run_text-one_session (grammar functions) s plays.replies plays.last out plays.lines plays.is_last);
-}
+      by : (v : Verb) → RunsSessions v → text ≡ one_session (is_counted v) out → IsOutputOf v rows depth bytes text
+      by verb.Run runs e = record { run = run; prints = e ∙ sym (run_text-one_session (grammar functions) s solo.replies solo.last out solo.lines solo.is_last) }
+      by verb.Solo runs e = record {
+        run = run;
+        counts = map counts_of out.lines;
+        counted = solo.counted;
+        prints = e ∙ sym (solo_text-one_session (grammar functions) s solo.replies solo.last out solo.lines solo.is_last);
+      }
+      by verb.Check runs e = absurd (elim runs [ inl same ↦ (let h = same in absurd (cc)) | inr same ↦ (let h = same in absurd (cc)) ])
+      by verb.Plan runs e = absurd (elim runs [ inl same ↦ (let h = same in absurd (cc)) | inr same ↦ (let h = same in absurd (cc)) ])
+      by verb.Gen runs e = absurd (elim runs [ inl same ↦ (let h = same in absurd (cc)) | inr same ↦ (let h = same in absurd (cc)) ])
 
 -- what is known of an answer, by what is known of each answer
 pub if_ok : {T E : Type 0} (r : Result T E) (P Q : T → Type 0) → IfOk r P → ((x : T) → P x → Q x) → IfOk r Q
@@ -214,15 +222,39 @@ same_text g h rs qs last end e f k =
     ap (λ (z : Grammar). run_text z (rs ∷ []) (last ∷ [])) e ∙ ap (λ (z : List Reply). run_text h (z ∷ []) (last ∷ [])) f ∙ ap (λ (z : Option Tree). run_text h (qs ∷ []) (z ∷ [])) k
 
 pub one_text_of : OneJob → AttributionsAreUnique → (bytes text other : List ℕ) (depth : ℕ) → IsRunWithRoom bytes depth text → IsRunWithRoom bytes depth other → text ≡ other
-one_text_of one unique bytes text other depth a b =
+one_text_of one unique bytes text other depth first second =
+    let a = first.run in
+    let b = second.run in
     let same = same_session one bytes a.grammar b.grammar a.opening b.opening a.changes b.changes a.built b.built in
     let here = moved depth a.grammar b.grammar a.opening b.opening a.changes b.changes a.replies a.last a.attempts same.0 same.1 same.2 a.runs in
     let order = order_of b.grammar b.parts (well_formed bytes b.grammar _ b.built.accepted) b.ordered in
     let answers = one_session_of unique b.grammar b.parts depth (unparsed b.grammar.prods) b.opening b.changes a.replies b.replies a.last b.last a.attempts b.attempts order here b.runs in
-    a.prints ∙ same_text a.grammar b.grammar a.replies b.replies a.last b.last same.0 answers.0 answers.1 ∙ sym b.prints
+    first.prints ∙ same_text a.grammar b.grammar a.replies b.replies a.last b.last same.0 answers.0 answers.1 ∙ sym second.prints
 
-pub not_many : (b : Bool) (m n : ℕ) → (IsTrue b → n < m) × (n < m → IsTrue b) → b ≡ false → m ≤ n
+-- ---- which refusals do not come
+
+not_many : (b : Bool) (m n : ℕ) → (IsTrue b → n < m) × (n < m → IsTrue b) → b ≡ false → m ≤ n
 not_many b m n many no-more = elim (leb_tells m n) [
   | inl h ↦ h.1
   | inr h ↦ (let more = many.1 h.1 in absurd (cc))
 ]
+
+-- the rows of all sessions are few, by the number of sessions that was counted
+pub few_rows_of : (b : Bool) (rows : ℕ) (sessions : List Script) (count : ℕ) → count ≡ length sessions → (IsTrue b → row_limit < rows * count) × (row_limit < rows * count → IsTrue b) → b ≡ false
+    → rows * length (map session sessions) ≤ row_limit
+few_rows_of b rows sessions count e many few =
+    subst (λ (n : ℕ). rows * n ≤ row_limit) (e ∙ sym (length-map sessions session)) (not_many b (rows * count) row_limit many few)
+
+module _ (v : Verb) (b : Bool) (sessions : List Script) (count : ℕ) (e : count ≡ length sessions) (told : MatchBool b ((v ≡ verb.Solo) × (count ≢ 1)) (TakesSessions v count)) where
+  same_count : count ≡ length (map session sessions)
+  same_count = e ∙ sym (length-map sessions session)
+
+  -- the command runs one session, and there is another number of them
+  pub others : b ≡ true → (v ≡ verb.Solo) × (length (map session sessions) ≢ 1)
+  others is =
+      subst (λ (n : ℕ). (v ≡ verb.Solo) × (n ≢ 1)) same_count (subst (λ (z : Bool). MatchBool z ((v ≡ verb.Solo) × (count ≢ 1)) (TakesSessions v count)) is told)
+
+  -- or it runs so many
+  pub takes : b ≡ false → TakesSessions v (length (map session sessions))
+  takes is =
+      subst (λ (n : ℕ). TakesSessions v n) same_count (subst (λ (z : Bool). MatchBool z ((v ≡ verb.Solo) × (count ≢ 1)) (TakesSessions v count)) is told)

@@ -1,10 +1,10 @@
 -- Lemmas on printed texts.
-use Rattle.std.proofs.Common.{◌≡◌, ℕ, ◌+◌, ◌<◌, List, [], ◌∷◌, ◌++◌, decimal, drop, length, get_or, ap, sym, ◌∙◌, refl, Bool, true, false, Option, Some, None, eq-eqb, append_assoc}
+use Rattle.std.proofs.Common.{◌≡◌, ℕ, ◌+◌, ◌<◌, List, [], ◌∷◌, ◌++◌, decimal, drop, length, get_or, map, ap, sym, ◌∙◌, refl, Bool, true, false, not, cond, Option, Some, None, eq-eqb, append_assoc}
 use Rattle.std.proofs.lemmas.List.{append-nil}
 use Rattle.std.proofs.lemmas.Bool.{and_from}
 use Rattle.std.proofs.Math.Seq.{drop-length}
 use Rattle.lrc_meaning.specs.Tree.{Tree, int, bool, name, node, Trees, none, more, same_tree, same_trees, if_same}
-use Rattle.lrc_meaning.specs.Editing.{Reply}
+use Rattle.lrc_meaning.specs.Editing.{Reply, values, bad_path, wrong_sort, too_deep, full, unopened, shown, forgot, has_values}
 use Rattle.lrc_meaning.specs.Text as text
 use Rattle.lrc_meaning.specs.Text.{line_feed, run_text}
 use Rattle.lrc_meaning.specs.Grammar.{Grammar}
@@ -13,9 +13,13 @@ use Rattle.lrc_store.specs.Standing.{Standing}
 use Rattle.lrc_store.specs.declared.cells.Handle.{Handle}
 use Rattle.lrc_run.specs.declared.reply.Line.{Line}
 use Rattle.lrc_run.specs.declared.reply.Out.{Out}
-use Rattle.lrc_run.specs.Lines.{AreLines}
+use Rattle.lrc_run.specs.declared.reply.Outcome.{Outcome}
+use Rattle.lrc_run.specs.declared.reply.Outcome.TheVariants as outcome
+use Rattle.lrc_run.specs.Lines.{IsOutcome, AreLines, reply_of}
+use Rattle.lrc_run.specs.Counts.{counts_of, stops_counts, counts_text, counted_lines}
 use Rattle.lrc_run.specs.Playing.{IsLast}
-use Rattle.lrc_cli.specs.Printed.{numbered_lines, final_number, one_session}
+use Rattle.lrc_cli.specs.Headline.{solo_text}
+use Rattle.lrc_cli.specs.Printed.{goes_on, line_counts, numbered_lines, final_number, one_session}
 use Rattle.std.proofs.lemmas.Slice.Eq.{bytes_eq-Decides}
 use Rattle.std.proofs.lemmas.Bool.Decides.{Decides-int_eq}
 
@@ -36,28 +40,90 @@ mutual
   same_trees-itself (more t ts) = and_from _ _ (same_tree-itself t) (same_trees-itself ts)
 
 -- what is left to print of the lines
-next_lines : (i : ℕ) (lines : List Line) (line : Line) → i < length lines → line ≡ get_or lines i line →
-    numbered_lines i (drop i lines) ≡ decimal i ++ (line.body ++ (line_feed ++ numbered_lines (i + 1) (drop (i + 1) lines)))
-next_lines i lines line h is = ap (numbered_lines i) (next_left lines i line h is)
+next_lines : (counted : Bool) (i : ℕ) (lines : List Line) (line : Line) → i < length lines → line ≡ get_or lines i line →
+    numbered_lines counted i (drop i lines) ≡ decimal i ++ (line.body ++ (line_counts counted line ++ (line_feed ++ numbered_lines (goes_on counted line.outcome) (i + 1) (drop (i + 1) lines))))
+next_lines counted i lines line h is = ap (numbered_lines counted i) (next_left lines i line h is)
 
-pub one_line_more : (i : ℕ) (lines : List Line) (line : Line) (before after numbered told : List ℕ) → i < length lines → line ≡ get_or lines i line →
-    numbered ≡ before ++ decimal i → told ≡ numbered ++ line.body → after ≡ told ++ line_feed →
-    after ++ numbered_lines (i + 1) (drop (i + 1) lines) ≡ before ++ numbered_lines i (drop i lines)
-one_line_more i lines line before after numbered told h is a b c =
-    let left = next_lines i lines line h is in simp (left, a, b, c, append_assoc)
+pub one_line_more : (counted : Bool) (i : ℕ) (lines : List Line) (line : Line) (before after : List ℕ) → i < length lines → line ≡ get_or lines i line →
+    after ≡ before ++ (decimal i ++ (line.body ++ (line_counts counted line ++ line_feed))) →
+    after ++ numbered_lines (goes_on counted line.outcome) (i + 1) (drop (i + 1) lines) ≡ before ++ numbered_lines counted i (drop i lines)
+one_line_more counted i lines line before after h is e =
+    let left = next_lines counted i lines line h is in simp (left, e, append_assoc)
 
 -- after the last line nothing is left to print
-pub no_line_more : (i : ℕ) (lines : List Line) (text : List ℕ) → i ≡ length lines → text ++ numbered_lines i (drop i lines) ≡ text
-no_line_more i lines text e = ap (λ (z : List Line). text ++ numbered_lines i z) (ap (λ n. drop n lines) e ∙ drop-length lines) ∙ append-nil text
+pub no_line_more : (counted : Bool) (i : ℕ) (lines : List Line) (text : List ℕ) → i ≡ length lines → text ++ numbered_lines counted i (drop i lines) ≡ text
+no_line_more counted i lines text e = ap (λ (z : List Line). text ++ numbered_lines counted i z) (ap (λ n. drop n lines) e ∙ drop-length lines) ∙ append-nil text
 
 -- the lines are those of the replies
-lines_are : (g : Grammar) (n : ℕ) (replies : List Reply) (lines : List Line) → AreLines g replies lines → text.reply_lines g n replies ≡ numbered_lines n lines
+lines_are : (g : Grammar) (n : ℕ) (replies : List Reply) (lines : List Line) → AreLines g replies lines → text.reply_lines g n replies ≡ numbered_lines false n lines
 lines_are g n [] [] are = refl
 lines_are g n [] (line ∷ lines) are = absurd are
 lines_are g n (reply ∷ replies) [] are = absurd are
 lines_are g n (reply ∷ replies) (line ∷ lines) are =
     ap (λ z. decimal n ++ (z ++ (line_feed ++ text.reply_lines g (n + 1) replies))) (sym are.0.body)
     ∙ ap (λ z. decimal n ++ (line.body ++ (line_feed ++ z))) (lines_are g (n + 1) replies lines are.1)
+
+-- a line's outcome tells of its reply whether it has values, and whether it stops the counts
+kept : (o : Outcome) (reply : Reply) → IsOutcome o reply → (has_values (reply_of o) ≡ has_values reply) × (stops_counts (reply_of o) ≡ stops_counts reply)
+kept outcome.Values (values vs) is = (refl, refl)
+kept outcome.Values bad_path is = absurd is
+kept outcome.Values wrong_sort is = absurd is
+kept outcome.Values too_deep is = absurd is
+kept outcome.Values full is = absurd is
+kept outcome.Values unopened is = absurd is
+kept outcome.Values (shown t) is = absurd is
+kept outcome.Values forgot is = absurd is
+kept outcome.BadPath (values vs) is = absurd is
+kept outcome.BadPath bad_path is = (refl, refl)
+kept outcome.BadPath wrong_sort is = absurd is
+kept outcome.BadPath too_deep is = absurd is
+kept outcome.BadPath full is = absurd is
+kept outcome.BadPath unopened is = absurd is
+kept outcome.BadPath (shown t) is = absurd is
+kept outcome.BadPath forgot is = absurd is
+kept outcome.WrongSort (values vs) is = absurd is
+kept outcome.WrongSort bad_path is = absurd is
+kept outcome.WrongSort wrong_sort is = (refl, refl)
+kept outcome.WrongSort too_deep is = absurd is
+kept outcome.WrongSort full is = absurd is
+kept outcome.WrongSort unopened is = absurd is
+kept outcome.WrongSort (shown t) is = absurd is
+kept outcome.WrongSort forgot is = absurd is
+kept outcome.TooDeep (values vs) is = absurd is
+kept outcome.TooDeep bad_path is = absurd is
+kept outcome.TooDeep wrong_sort is = absurd is
+kept outcome.TooDeep too_deep is = (refl, refl)
+kept outcome.TooDeep full is = absurd is
+kept outcome.TooDeep unopened is = absurd is
+kept outcome.TooDeep (shown t) is = absurd is
+kept outcome.TooDeep forgot is = absurd is
+kept outcome.Full (values vs) is = absurd is
+kept outcome.Full bad_path is = absurd is
+kept outcome.Full wrong_sort is = absurd is
+kept outcome.Full too_deep is = absurd is
+kept outcome.Full full is = (refl, refl)
+kept outcome.Full unopened is = absurd is
+kept outcome.Full (shown t) is = absurd is
+kept outcome.Full forgot is = absurd is
+kept outcome.Unopened (values vs) is = absurd is
+kept outcome.Unopened bad_path is = absurd is
+kept outcome.Unopened wrong_sort is = absurd is
+kept outcome.Unopened too_deep is = absurd is
+kept outcome.Unopened full is = absurd is
+kept outcome.Unopened unopened is = (refl, refl)
+kept outcome.Unopened (shown t) is = absurd is
+kept outcome.Unopened forgot is = absurd is
+
+-- what stops the counts has no values
+no_values : (reply : Reply) → stops_counts reply ≡ true → has_values reply ≡ false
+no_values (values vs) stops = absurd (cc)
+no_values bad_path stops = refl
+no_values wrong_sort stops = refl
+no_values too_deep stops = refl
+no_values full stops = refl
+no_values unopened stops = refl
+no_values (shown t) stops = refl
+no_values forgot stops = refl
 
 -- the one session's last tree is that of the first session
 final_number-is : (s : Standing) (last : Option Tree) (handle : Option Handle) → IsLast s last handle → text.final_number (last ∷ []) last ≡ final_number handle
@@ -66,9 +132,34 @@ final_number-is s None (Some handle) is = absurd is
 final_number-is s (Some t) None is = absurd is
 final_number-is s (Some t) (Some handle) is = let same = same_tree-itself t in simp (same)
 
+-- the texts of a line, with its counts or behind the last of them
+one_counted : (number body told counts plain counted : List ℕ) (numbered : Bool → List ℕ) (stops has : Bool) → told ≡ body → (stops ≡ true → has ≡ false) → plain ≡ numbered false → counted ≡ numbered true →
+    cond stops (number ++ (body ++ (line_feed ++ plain))) (number ++ ((body ++ cond has counts []) ++ (line_feed ++ counted)))
+    ≡ number ++ (told ++ (cond has counts [] ++ (line_feed ++ numbered (not stops))))
+one_counted number body told counts plain counted numbered true has e h p c = let without = h refl in simp (e, p, without)
+one_counted number body told counts plain counted numbered false has e h p c = simp (e, c, append_assoc)
+
+-- the lines with counts are those of the replies with theirs
+counted_are : (g : Grammar) (n : ℕ) (replies : List Reply) (lines : List Line) → AreLines g replies lines → counted_lines g n replies (map counts_of lines) ≡ numbered_lines true n lines
+counted_are g n [] [] are = refl
+counted_are g n [] (line ∷ lines) are = absurd are
+counted_are g n (reply ∷ replies) [] are = absurd are
+counted_are g n (reply ∷ replies) (line ∷ lines) are =
+    one_counted (decimal n) (text.reply_body g reply) line.body (counts_text (counts_of line)) (text.reply_lines g (n + 1) replies) (counted_lines g (n + 1) replies (map counts_of lines))
+    (λ (b : Bool). numbered_lines b (n + 1) lines) (stops_counts reply) (has_values reply) are.0.body (no_values reply) (lines_are g (n + 1) replies lines are.1) (counted_are g (n + 1) replies lines are.1)
+    ∙ ap (λ (b : Bool). decimal n ++ (line.body ++ (cond b (counts_text (counts_of line)) [] ++ (line_feed ++ numbered_lines (not (stops_counts reply)) (n + 1) lines)))) (sym (kept line.outcome reply are.0.outcome).0)
+    ∙ ap (λ (b : Bool). decimal n ++ (line.body ++ (line_counts true line ++ (line_feed ++ numbered_lines (not b) (n + 1) lines)))) (sym (kept line.outcome reply are.0.outcome).1)
+
 -- the text of a session's lines is that of a run of the session alone
 pub run_text-one_session : (g : Grammar) (s : Standing) (replies : List Reply) (last : Option Tree) (out : Out) → AreLines g replies out.lines → IsLast s last out.last →
-    run_text g (replies ∷ []) (last ∷ []) ≡ one_session out
+    run_text g (replies ∷ []) (last ∷ []) ≡ one_session false out
 run_text-one_session g s replies last out are is =
     let lines = lines_are g 0 replies out.lines are in
+    let final = final_number-is s last out.last is in simp (lines, final, append_assoc)
+
+-- and with their counts that of such a run with its counts
+pub solo_text-one_session : (g : Grammar) (s : Standing) (replies : List Reply) (last : Option Tree) (out : Out) → AreLines g replies out.lines → IsLast s last out.last →
+    solo_text g replies (map counts_of out.lines) last ≡ one_session true out
+solo_text-one_session g s replies last out are is =
+    let lines = counted_are g 0 replies out.lines are in
     let final = final_number-is s last out.last is in simp (lines, final, append_assoc)

@@ -36,7 +36,7 @@ use Rattle.lrc_meaning.specs.Editing.{Change}
 use Rattle.lrc_meaning.specs.Grammar.{Grammar}
 use Rattle.lrc_failures.specs.Taken.{failure_of_text, failure_of_job}
 use Rattle.lrc_cli.specs.Headline.{IsAccepted, IsBuilt, IsOutputOf, IsBuiltFor}
-use Rattle.lrc_cli.specs.Causes.{row_limit, IsCycleAt, IsUnbuiltVerb, IsBuiltVerb, ReadsNothing, TellsOrder, IsUnordered, has_cycle, has_no_memory, IsCause, no_job, not_accepted, too_many_rows, no_run, not_ordered, not_ordered_to_run, no_memory}
+use Rattle.lrc_cli.specs.Causes.{row_limit, IsCycleAt, IsUnbuiltVerb, IsBuiltVerb, ReadsNothing, RunsSessions, TellsOrder, IsUnordered, has_cycle, has_no_memory, IsCause, no_job, not_accepted, too_many_rows, not_one_session, no_run, not_ordered, not_ordered_to_run, no_memory}
 use Rattle.lrc_cli.specs.Running.{IsBuiltSession}
 use Rattle.lrc_cli.proofs.RunLemmas.{OneJob, same_accepted, built}
 use Rattle.lrc_cli.specs.Status.{input_limit, IsReadWhole, Done, Unwritten, IsRefused, unread, read, Refused, HoldsJob, is_refusal}
@@ -66,15 +66,10 @@ loses_taken (Some xs) left' input taken = (
 
 -- a command that reads nothing is not built
 never_both : (v : Verb) → IsBuiltVerb v → ReadsNothing v → ⊥
-never_both v (inl run) (inl (inl solo)) = absurd (cc)
-never_both v (inl run) (inl (inr gen)) = absurd (cc)
-never_both v (inl run) (inr gen) = absurd (cc)
-never_both v (inr (inl check)) (inl (inl solo)) = absurd (cc)
-never_both v (inr (inl check)) (inl (inr gen)) = absurd (cc)
-never_both v (inr (inl check)) (inr gen) = absurd (cc)
-never_both v (inr (inr plan)) (inl (inl solo)) = absurd (cc)
-never_both v (inr (inr plan)) (inl (inr gen)) = absurd (cc)
-never_both v (inr (inr plan)) (inr gen) = absurd (cc)
+never_both v (inl run) gen = absurd (cc)
+never_both v (inr (inl solo)) gen = absurd (cc)
+never_both v (inr (inr (inl check))) gen = absurd (cc)
+never_both v (inr (inr (inr plan))) gen = absurd (cc)
 
 -- what is known of a command that is built
 pub known_built : (command : Command) (b : Bool) → b ≡ true → MatchBool b (IsBuiltVerb command.verb) (IsUnbuiltVerb command.verb) → IsBuiltVerb command.verb
@@ -97,7 +92,8 @@ is_cause : (command : Command) (input : List ℕ) (failure : Failure) → IsCaus
 is_cause command input _ (no_job fault some is none) = refl
 is_cause command input _ (not_accepted job fault some denotes is) = refl
 is_cause command input _ (too_many_rows g sessions accepted run many) = refl
-is_cause command input _ (no_run g sessions accepted run few none) = refl
+is_cause command input _ (not_one_session g sessions accepted solo few others) = refl
+is_cause command input _ (no_run g sessions accepted run few takes none) = refl
 is_cause command input _ (not_ordered g sessions cycle accepted check is) = refl
 is_cause command input _ (not_ordered_to_run g opening changes cycle run few b is) = refl
 is_cause command input _ no_memory = refl
@@ -129,8 +125,8 @@ read_whole n (Some xs) left' input t h =
     (t.0 ∙ grind (arith, common_steps), t.1 ∙ ap Some (drop_all n xs short))
 
 short_output : (v : Verb) (rows depth : ℕ) (input text : List ℕ) → IsOutputOf v rows depth input text → length input < input_limit
-short_output verb.Run rows depth input text r = let short : length input ≤ TEXT_LIMIT = r.built.accepted.denotes.short in omega arith
-short_output verb.Solo rows depth input text r = absurd r
+short_output verb.Run rows depth input text r = let short : length input ≤ TEXT_LIMIT = r.run.built.accepted.denotes.short in omega arith
+short_output verb.Solo rows depth input text r = let short : length input ≤ TEXT_LIMIT = r.run.built.accepted.denotes.short in omega arith
 short_output verb.Check rows depth input text r = let short : length input ≤ TEXT_LIMIT = r.has.accepted.denotes.short in omega arith
 short_output verb.Plan rows depth input text r = let short : length input ≤ TEXT_LIMIT = r.has.accepted.denotes.short in omega arith
 short_output verb.Gen rows depth input text r = absurd r
@@ -226,7 +222,7 @@ pub unordered_cause : (command : Command) (input : List ℕ) (g : Grammar) (sess
 unordered_cause command input g sessions _ accepted check (has_cycle cycle is) = not_ordered g sessions cycle accepted check is
 unordered_cause command input g sessions _ accepted check has_no_memory = no_memory
 
-pub unordered_to_run_cause : (command : Command) (input : List ℕ) (g : Grammar) (sessions : List Script) (script : Script) (failure : Failure) → command.verb ≡ verb.Run → command.rows ≤ row_limit
+pub unordered_to_run_cause : (command : Command) (input : List ℕ) (g : Grammar) (sessions : List Script) (script : Script) (failure : Failure) → RunsSessions command.verb → command.rows ≤ row_limit
     → IsAccepted input g (map session sessions) → IsBuiltSession g sessions script → IsUnordered g failure → IsCause command input failure
 unordered_to_run_cause command input g sessions script _ run few accepted b (has_cycle cycle is) =
     not_ordered_to_run g _ _ cycle run few (built input g sessions script b accepted) is
@@ -293,9 +289,11 @@ no_fault job g ss (accept.Term s e fault) has some is = two_ways job g is.0 ss _
 no_fault job g ss (accept.NotStart s) has some is = two_ways job g is.0 ss _ has is.1
 no_fault job g ss accept.Memory has some is = absurd (some refl)
 
-runs_tell_nothing : (command : Command) → command.verb ≡ verb.Run → TellsOrder command → ⊥
-runs_tell_nothing command run (inl e) = absurd (cc)
-runs_tell_nothing command run (inr e) = absurd (cc)
+runs_tell_nothing : (command : Command) → RunsSessions command.verb → TellsOrder command → ⊥
+runs_tell_nothing command (inl run) (inl e) = absurd (cc)
+runs_tell_nothing command (inl run) (inr e) = absurd (cc)
+runs_tell_nothing command (inr solo) (inl e) = absurd (cc)
+runs_tell_nothing command (inr solo) (inr e) = absurd (cc)
 
 -- a grammar that is ordered has no cycle
 no_cycle : (prods : List Production) (Paths : Production → ℕ → ℕ → Type 0) (p x : ℕ) → All (λ q. IsAcyclic (Paths q)) prods → IsFirstCycle prods Paths p x → ⊥
@@ -305,7 +303,7 @@ ordered_has_none : (g : Grammar) (cycle : Cycle) (is_extended : Bool) (p x : ℕ
 ordered_has_none g cycle true p x ordered c = no_cycle g.prods (ExtendedPath g []) p x ordered.extended c.1
 ordered_has_none g cycle false p x ordered c = no_cycle g.prods (Leads g []) p x ordered.induced c
 
-run_not_refused : OneJob → (command : Command) (bytes : List ℕ) (g : Grammar) (opening : Tree) (changes : List Change) (failure : Failure) → IsWithinRanges command → command.verb ≡ verb.Run
+run_not_refused : OneJob → (command : Command) (bytes : List ℕ) (g : Grammar) (opening : Tree) (changes : List Change) (failure : Failure) → IsWithinRanges command → RunsSessions command.verb
     → IsBuilt bytes g opening changes → IsOrdered g [] → IsTrue (is_refusal failure) → IsCause command bytes failure → ⊥
 run_not_refused one command bytes g opening changes _ within run b ordered r (no_job fault some is none) = none b.accepted.job b.accepted.denotes
 run_not_refused one command bytes g opening changes _ within run b ordered r (not_accepted job fault some denotes is) =
@@ -313,7 +311,10 @@ run_not_refused one command bytes g opening changes _ within run b ordered r (no
 run_not_refused one command bytes g opening changes _ within run b ordered r (too_many_rows h sessions accepted verb many) =
     let same = same_accepted one bytes h g sessions _ accepted b.accepted in
     few_rows command.rows (length sessions) (ap length same.1) within.rows.1 many
-run_not_refused one command bytes g opening changes _ within run b ordered r (no_run h sessions accepted verb few none) =
+run_not_refused one command bytes g opening changes _ within run b ordered r (not_one_session h sessions accepted verb few others) =
+    let same = same_accepted one bytes h g sessions _ accepted b.accepted in
+    others (ap length same.1)
+run_not_refused one command bytes g opening changes _ within run b ordered r (no_run h sessions accepted verb few takes none) =
     let same = same_accepted one bytes h g sessions _ accepted b.accepted in
     none opening changes (subst (λ (z : Grammar). IsBuilt bytes z opening changes) (sym same.0) b)
 run_not_refused one command bytes g opening changes _ within run b ordered r (not_ordered h sessions cycle accepted tells is) = runs_tell_nothing command run tells
@@ -328,7 +329,8 @@ order_not_refused one command bytes g ss _ tells b ordered r (no_job fault some 
 order_not_refused one command bytes g ss _ tells b ordered r (not_accepted job fault some denotes is) =
     no_fault job g ss fault (subst (λ (j : Job). HasSessions j g (Ok ss)) (one bytes b.job job b.denotes denotes) b.accepted) some is
 order_not_refused one command bytes g ss _ tells b ordered r (too_many_rows h sessions accepted run many) = runs_tell_nothing command run tells
-order_not_refused one command bytes g ss _ tells b ordered r (no_run h sessions accepted run few none) = runs_tell_nothing command run tells
+order_not_refused one command bytes g ss _ tells b ordered r (not_one_session h sessions accepted solo few others) = runs_tell_nothing command (inr solo) tells
+order_not_refused one command bytes g ss _ tells b ordered r (no_run h sessions accepted run few takes none) = runs_tell_nothing command run tells
 order_not_refused one command bytes g ss _ tells b ordered r (not_ordered h sessions cycle accepted too is) =
     let same = same_accepted one bytes h g sessions ss accepted b in
     ordered_has_none h cycle cycle.is_extended is.production is.occurrence (subst (λ (z : Grammar). IsOrdered z []) (sym same.0) ordered) is.found
@@ -337,8 +339,8 @@ order_not_refused one command bytes g ss _ tells b ordered r no_memory = absurd 
 
 not_refused_for : OneJob → (command : Command) (bytes : List ℕ) (v : Verb) → command.verb ≡ v → IsBuiltFor v bytes → (failure : Failure) → IsWithinRanges command
     → IsTrue (is_refusal failure) → IsCause command bytes failure → ⊥
-not_refused_for one command bytes verb.Run is h failure within r cause = run_not_refused one command bytes h.0 h.1 h.2 failure within is h.3 h.4 r cause
-not_refused_for one command bytes verb.Solo is h failure within r cause = h
+not_refused_for one command bytes verb.Run is h failure within r cause = run_not_refused one command bytes h.0 h.1 h.2 failure within (inl is) h.3 h.4 r cause
+not_refused_for one command bytes verb.Solo is h failure within r cause = run_not_refused one command bytes h.0 h.1 h.2 failure within (inr is) h.3 h.4 r cause
 not_refused_for one command bytes verb.Check is h failure within r cause = order_not_refused one command bytes h.0 h.1 failure (inl is) h.2 h.3 r cause
 not_refused_for one command bytes verb.Plan is h failure within r cause = order_not_refused one command bytes h.0 h.1 failure (inr is) h.2 h.3 r cause
 not_refused_for one command bytes verb.Gen is h failure within r cause = h
@@ -346,14 +348,13 @@ not_refused_for one command bytes verb.Gen is h failure within r cause = h
 -- a job for which there is something to print is short
 short_job : (v : Verb) (bytes : List ℕ) → IsBuiltFor v bytes → length bytes ≤ TEXT_LIMIT
 short_job verb.Run bytes h = h.3.accepted.denotes.short
-short_job verb.Solo bytes h = absurd h
+short_job verb.Solo bytes h = h.3.accepted.denotes.short
 short_job verb.Check bytes h = h.2.denotes.short
 short_job verb.Plan bytes h = h.2.denotes.short
 short_job verb.Gen bytes h = absurd h
 
 unbuilt_has_none : (v : Verb) (bytes : List ℕ) → IsBuiltFor v bytes → IsUnbuiltVerb v → ⊥
-unbuilt_has_none v bytes h (inl e) = subst (λ (x : Verb). IsBuiltFor x bytes) e h
-unbuilt_has_none v bytes h (inr e) = subst (λ (x : Verb). IsBuiltFor x bytes) e h
+unbuilt_has_none v bytes h e = subst (λ (x : Verb). IsBuiltFor x bytes) e h
 
 pub not_refused : OneJob → (words : List (String Global)) (command : Command) (left left' : Option (List ℕ)) (failure : Failure) → Says (texts words) command → HoldsJob command left
     → IsTrue (is_refusal failure) → Refused words left left' failure → ⊥

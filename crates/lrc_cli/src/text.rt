@@ -1,9 +1,9 @@
 ghost use Rattle.std.specs.Prelude.{◌≡◌, ◌++◌, OnOk, IfOk, decimal};
 ghost use Rattle.lrc_meaning.specs.Text.{line_feed};
 ghost use Rattle.lrc_meaning.specs.Editing.{has_values};
-ghost use Rattle.lrc_run.specs.Counts.{counts_of, stops_counts, counts_text};
+ghost use Rattle.lrc_run.specs.Counts.{counts_of, counts_text};
 ghost use Rattle.lrc_run.specs.Lines.{reply_of};
-ghost use Rattle.lrc_cli.specs.Printed.{line_counts, numbered_lines, final_line, one_session};
+ghost use Rattle.lrc_cli.specs.Printed.{goes_on, line_counts, numbered_lines, final_line, one_session};
 
 use itoa::Buffer;
 use lrc_base::Memory;
@@ -20,11 +20,11 @@ fn push_number(text: &mut Vec<u8>, number: u64) -> Result<(), Memory>
     Ok(())
 }
 
-/// Whether no counts are printed at this outcome, nor behind it.
-fn stops_counts(outcome: Outcome) -> bool
-    ensures { result ≡ stops_counts (reply_of outcome) }
+/// Whether counts are printed at this outcome and behind it, if they were up to it.
+fn goes_on(counted: bool, outcome: Outcome) -> bool
+    ensures { result ≡ goes_on counted outcome }
 {
-    matches!(outcome, Outcome::TooDeep | Outcome::Full | Outcome::Unopened)
+    counted && !matches!(outcome, Outcome::TooDeep | Outcome::Full | Outcome::Unopened)
 }
 
 fn has_values(outcome: Outcome) -> bool
@@ -65,7 +65,7 @@ fn push_lines(text: &mut Vec<u8>, lines: &[Line], counted: bool) -> Result<(), M
     let mut counted = counted;
     for (number, line) in lines.iter().enumerate() {
         push_line(text, number, line, counted)?;
-        counted = counted && !stops_counts(line.outcome);
+        counted = goes_on(counted, line.outcome);
     }
     Ok(())
 }
