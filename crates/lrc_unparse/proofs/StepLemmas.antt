@@ -171,22 +171,6 @@ pattern-begun style prods s production kids a b short there same opened known =
     opens-one style prods s _ [] _ (a_part.Pieces production 0 kids) a a b (puts-nothing a short) same opened known
     (ap (λ pattern. patterned prods pattern (production_name prods production) (kid_texts style prods (meant s kids.0))) there) (omega (arith, size))
 
--- without a pattern a node is printed by its name
-pub node-by-name : (style : Style) (prods : List Production) (s : Standing) (production : ℕ) (kids : CellTree) (a b : Printer) → pattern_in style prods production ≡ None →
-    Prints style prods s (applied (production_name prods production) (kid_texts style prods kids)) (suc (kids_size (tree_sizes style prods kids))) a b →
-    Prints style prods s (text_of style prods (node production (trees_in kids))) (suc (node_size (pattern_in style prods production) (tree_sizes style prods kids))) a b
-node-by-name style prods s production kids a b none prints =
-    let size = ap (λ pattern. node_size pattern (tree_sizes style prods kids)) none in
-    record {
-      bytes = prints.bytes;
-      parts = prints.parts;
-      put = prints.put;
-      pending = prints.pending;
-      whole = ap (λ pattern. patterned prods pattern (production_name prods production) (kid_texts style prods kids)) none ∙ prints.whole;
-      known = prints.known;
-      smaller = omega (arith, size, prints.smaller);
-    }
-
 -- ---- a step
 
 -- The text stays the same from printer to printer, what is pending is known and smaller, and no more bytes are made.

@@ -59,7 +59,7 @@ cell_size nil = 1
 cell_size (number n) = 1
 cell_size (pair tag left right) = suc (cell_size left + cell_size right)
 
--- ---- how much is printed
+-- ---- measures
 
 -- a measure of children, whose own measures these are, and the closing bracket
 abbrev pub kids_size : List ℕ → ℕ
