@@ -1,3 +1,4 @@
 pub mod Sessions
+pub mod Lending
 pub mod Proposals
 pub mod Faults

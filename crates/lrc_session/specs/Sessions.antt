@@ -18,13 +18,15 @@ use Rattle.lrc_store.specs.Cells.{CellTree, IsWithin}
 use Rattle.lrc_store.specs.Standing.{Standing, Stands, Told}
 use Rattle.lrc_store.specs.Words.{Gains, LacksOne, Reads}
 use Rattle.lrc_code.specs.Forms.{tree_cell}
-use Rattle.lrc_call_meaning.specs.Forms.{values_cell}
+use Rattle.lrc_call_meaning.specs.Forms.{values_cell, call_form}
 use Rattle.lrc_call_meaning.specs.Reached.{cells_of}
 use Rattle.lrc_call_meaning.specs.Spelled.{IsSpelled}
 use Rattle.lrc_places.specs.Replacing.{IsPlace, IsOtherPlace}
 use Rattle.lrc_functions.specs.declared.functions.Functions.{Functions}
 use Rattle.lrc_bodies.specs.Bodies.{HasRoom}
+use Rattle.lrc_bodies.specs.Counting.{MeetsCall}
 use Rattle.lrc_bodies.specs.declared.frames.Frames.{Frames}
+use Rattle.lrc_machine.specs.Counts.{IsCellOf}
 use Rattle.lrc_machine.specs.Machine.{HasLevels}
 use Rattle.lrc_machine.specs.Levels.{slots_of}
 use Rattle.lrc_session.specs.declared.session.Session.{Session}
@@ -53,6 +55,10 @@ module _ (functions : Functions) where
   -- the cells that an attempt at a tree demands
   abbrev pub demands : ℕ → Tree → List CellTree
   demands limit t = demanded grammar sorts limit t
+
+  -- the cell is that of a call that an attempt at a tree makes
+  abbrev pub IsCalled : ℕ → Tree → CellTree → Type 0
+  IsCalled limit t = IsCellOf call_form (MeetsCall grammar sorts limit (root_call t))
 
   -- the tree has no attributes within the limit
   abbrev pub IsTooDeep : ℕ → Tree → Type 0

@@ -1,10 +1,14 @@
+ghost use Rattle.std.specs.Borrow.{sem};
 ghost use Rattle.std.specs.Prelude.{◌≡◌, ◌≢◌, ◌-◌, ◌<◌, List, Some, Err, IfOk, OnErr, length, slice_get, IsTrue};
-ghost use Rattle.lrc_meaning.specs.Tree.{Tree, tree, fits};
+ghost use Rattle.lrc_meaning.specs.Tree.{Tree, tree, fits, replaced};
 ghost use Rattle.lrc_store.specs.Standing.{Stands};
 ghost use Rattle.lrc_store.specs.Words.{Adds, Gains, LacksOne, Reads};
 ghost use Rattle.lrc_code.specs.Forms.{tree_cell};
+ghost use Rattle.lrc_machine.specs.Counts.{Counted};
 ghost use Rattle.lrc_bodies.specs.Bodies.{IsMeaningOf};
-ghost use Rattle.lrc_session.specs.Sessions.{IsStartTree, IsOpen, IsTooDeep, Opens, Edits, demands};
+ghost use Rattle.lrc_bodies.specs.Counting.{IsWhole};
+ghost use Rattle.lrc_session.specs.Sessions.{grammar, sorts, IsStartTree, IsOpen, IsCalled, IsTooDeep, Opens, Edits, demands};
+ghost use Rattle.lrc_session.specs.Lending.{LendsFrames};
 ghost use Rattle.lrc_session.specs.Proposals.{IsRootAsked, IsRootGiven, IsProposal, ProposesPut};
 ghost use Rattle.lrc_session.specs.declared.fault.StartFault.TheVariants as start;
 ghost use Rattle.lrc_functions.specs.declared.functions.Functions.{Functions};
@@ -97,7 +101,10 @@ impl Session {
         }
     }
 
-    /// Opens a session with a tree of the start sort, whose visits nest at most `depth` deep.
+    /// Opens a session with a tree of the start sort, whose visits nest at most `depth` deep. A memo
+    /// that is told stays whole: with each call that is remembered those are that its visit makes. Where
+    /// it is, just the calls of the root's visit are remembered besides those before, and each of them
+    /// that was not is missed once.
     ///
     /// # Errors
     ///
@@ -117,6 +124,8 @@ impl Session {
         ensures too_deep { result ≡ Err start.TooDeep → IsTooDeep functions.now depth (tree term.now) }
         ensures full { result ≡ Err start.Full → LacksOne (St.state store.new) (demands functions.now depth (tree term.now)) }
         ensures runs { IfOk result (λ session. session.runs ≡ (St.state store.new).missed - (St.state store.old).missed) }
+        ensures whole { IsWhole (grammar functions.now) (sorts functions.now) (St.state store.old).memo → IsWhole (grammar functions.now) (sorts functions.now) (St.state store.new).memo }
+        ensures counted { IsWhole (grammar functions.now) (sorts functions.now) (St.state store.old).memo → IfOk result (λ _. Counted (St.state store.old) (St.state store.new) (IsCalled functions.now depth (tree term.now))) }
         ensures same_meaning { St.meaning store.new ≡ St.meaning store.old }
     {
         let mut proposal = Session::propose(alloc, store, functions, depth, term)?;
@@ -173,7 +182,9 @@ impl Session {
     }
 
     /// Puts a part at a place of the session's tree. It takes no memory, and the machine's stack does
-    /// not grow with the tree's attached trees.
+    /// not grow with the tree's attached trees. A memo that is told stays whole, and where it is, just the
+    /// calls of the root's visit of the changed tree are remembered besides those before, and each of them
+    /// that was not is missed once.
     ///
     /// # Errors
     ///
@@ -193,12 +204,23 @@ impl Session {
         ensures edits { (t : Tree) (vs : List Tree) → IsOpen functions.now (St.state store.old) self.old t vs → Edits functions.now (St.state store.old) (St.state store.new) t vs self.old self.new put.now.path.now.steps (tree put.now.term.now) put.now.kind result }
         ensures runs { IfOk result (λ _. self.new.runs ≡ (St.state store.new).missed - (St.state store.old).missed) }
         ensures runs_kept { OnErr result (self.new.runs ≡ self.old.runs) }
+        ensures whole { IsWhole (grammar functions.now) (sorts functions.now) (St.state store.old).memo → IsWhole (grammar functions.now) (sorts functions.now) (St.state store.new).memo }
+        ensures counted { (t : Tree) (vs : List Tree) → IsOpen functions.now (St.state store.old) self.old t vs → IsWhole (grammar functions.now) (sorts functions.now) (St.state store.old).memo → IfOk result (λ _. Counted (St.state store.old) (St.state store.new) (IsCalled functions.now self.old.depth (replaced t put.now.path.now.steps (tree put.now.term.now)))) }
         ensures same_meaning { St.meaning store.new ≡ St.meaning store.old }
     {
         let call = self.propose_put(store, functions, put)?;
         let given = visit(store, functions, &mut self.frames, call, self.depth)?;
         self.settle(store, functions, call, given);
         Ok(())
+    }
+
+    /// The frames, for the visit between the halves of a put. Whoever writes to them keeps their levels
+    /// and the room of each.
+    pub fn frames(&mut self) -> &mut Frames
+        ensures* writes_back { sem 𝓛 (LendsFrames self.entry result) }
+        ensures value { result.now ≡ self.old.frames }
+    {
+        &mut self.frames
     }
 
     /// The root's synthesised attribute of this number, from 0.
