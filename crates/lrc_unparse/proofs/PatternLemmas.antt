@@ -1,10 +1,8 @@
 -- Children by their numbers, and the pieces of patterns.
-use Rattle.std.proofs.Common.{◌≡◌, ◌⊎◌, inl, inr, ℕ, ℤ, zero, suc, ◌+◌, ◌-◌, ◌<◌, ◌≤◌, List, [], ◌∷◌, ◌++◌, drop, refl, sym, ap, subst, ◌∙◌, arith, append_assoc, add-one, Option, Some, None}
-use Rattle.std.proofs.lemmas.List.{append-nil}
+use Rattle.std.proofs.Common.{◌≡◌, ◌⊎◌, inl, inr, ℕ, ℤ, zero, suc, ◌+◌, ◌-◌, ◌<◌, List, [], ◌∷◌, ◌++◌, drop, refl, sym, ap, subst, ◌∙◌, arith, add-one, Option, Some, None}
 use Rattle.std.proofs.lemmas.Option.{same_Some}
 use Rattle.std.specs.Prelude.{flat_map, unwrap_or, option_map, slice_get}
 use Rattle.std.specs.Option.{option_map_or}
-use Rattle.lrc_base.specs.declared.grammar.Piece.{Piece}
 use Rattle.lrc_base.specs.declared.grammar.Piece.TheVariants as a_piece
 use Rattle.lrc_base.specs.declared.grammar.Production.{Production}
 use Rattle.lrc_meaning.specs.Text.{piece_text}
@@ -16,7 +14,6 @@ use Rattle.lrc_store.specs.declared.cells.Handle.{Handle}
 use Rattle.lrc_store.specs.Words.{Keeps, Shows}
 use Rattle.lrc_store.proofs.Known.{kept-meant}
 use Rattle.lrc_code.specs.Decoding.{items_in, tree_in}
-use Rattle.lrc_unparse.specs.declared.printer.Part.{Part}
 use Rattle.lrc_unparse.specs.declared.printer.Part.TheVariants as a_part
 use Rattle.lrc_unparse.specs.declared.printer.Printer.{Printer}
 use Rattle.lrc_unparse.specs.declared.styles.Style.{Style}

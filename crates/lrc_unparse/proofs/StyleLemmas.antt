@@ -1,5 +1,5 @@
 -- Texts in a style: those of values are the texts of values, and those of trees the unparsed trees.
-use Rattle.std.proofs.Common.{◌≡◌, ℕ, List, ◌∷◌, refl, ap, ◌∙◌}
+use Rattle.std.proofs.Common.{◌≡◌, List, ◌∷◌, refl, ap, ◌∙◌}
 use Rattle.lrc_base.specs.declared.grammar.Production.{Production}
 use Rattle.lrc_meaning.specs.Tree.{Tree, int, bool, name, node, Trees, none, more}
 use Rattle.lrc_meaning.specs.Text.{production_name, applied, value_text, value_texts, patterned, pattern_of, unparsed, unparsed_all}

@@ -12,7 +12,7 @@ returns-in_default g c =
     let left = meant s c.loop-passed.left.0 in
     record {
       kid = none-left (items_in left) (c.args.number - c.loop-passed._passed) (slice_get (items_in (meant (g.St.Store.state c.args.store.now) c.args.kids.0)) c.args.number)
-      (no-items t c.look.result left c.in_default.not-Pair c.look.ensures.shows) c.loop-passed.invariant.behind;
+          (no-items t c.look.result left c.in_default.not-Pair c.look.ensures.shows) c.loop-passed.invariant.behind;
       known = tt;
       reads = reads-then (g.St.Store.state c.args.store.now) s t c.loop-passed.invariant.reads c.look.ensures.reads;
       same_meaning = c.look.ensures.same_meaning ∙ c.loop-passed.invariant.same_meaning;
@@ -39,7 +39,7 @@ returns-in-Nil g c =
     let left = meant s c.loop-passed.left.0 in
     record {
       kid = none-left (items_in left) (c.args.number - c.loop-passed._passed) (slice_get (items_in (meant (g.St.Store.state c.args.store.now) c.args.kids.0)) c.args.number)
-      (plain-no-items t c.look-2.result left c.in-Nil.is c.look-2.ensures.shows) c.loop-passed.invariant.behind;
+          (plain-no-items t c.look-2.result left c.in-Nil.is c.look-2.ensures.shows) c.loop-passed.invariant.behind;
       known = tt;
       reads = reads-then (g.St.Store.state c.args.store.now) s t c.loop-passed.invariant.reads c.look-2.ensures.reads;
       same_meaning = c.look-2.ensures.same_meaning ∙ c.loop-passed.invariant.same_meaning;

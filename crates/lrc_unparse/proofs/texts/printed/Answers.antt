@@ -1,4 +1,4 @@
-use Rattle.std.proofs.Common.{◌≡◌, ◌++◌, refl, sym, ap, subst, ◌∙◌, arith}
+use Rattle.std.proofs.Common.{◌≡◌, ◌++◌, refl, sym, ap, ◌∙◌, arith}
 use Rattle.std.proofs.lemmas.Result.{IfOk-weaker}
 use Rattle.lrc_meaning.specs.Tree.{Tree}
 use Rattle.lrc_store.specs.Standing.{Standing, Stands, meant}
@@ -11,7 +11,7 @@ use Rattle.lrc_call_meaning.specs.Spelled.{IsSpelled}
 use Rattle.lrc_call_meaning.proofs.DecodingLemmas.{value-back}
 use Rattle.lrc_unparse.specs.declared.printer.Printer.{Printer}
 use Rattle.lrc_unparse.specs.Styles.{text_of}
-use Rattle.lrc_unparse.specs.Printing.{cut, pending_text, Begins}
+use Rattle.lrc_unparse.specs.Printing.{cut, pending_text}
 use Rattle.lrc_unparse.proofs.TextLemmas.{finished, too-long}
 use Rattle.lrc_unparse.proofs.StepLemmas.{last-known, step}
 use Rattle.lrc_unparse.proofs.texts.printed.Goals as goal
