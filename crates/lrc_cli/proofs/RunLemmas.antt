@@ -1,32 +1,53 @@
 -- From a session that can be run to its replies, and to the text of the run.
-use Rattle.std.proofs.Common.{◌≡◌, ℕ, Bool, true, false, ◌<◌, ◌≤◌, IsTrue, List, [], ◌∷◌, map, Option, option_map, Ok, inl, inr, subst, sym, ap, refl, ◌∙◌}
+use Rattle.std.proofs.Common.{◌≡◌, ℕ, Bool, true, false, ◌<◌, ◌≤◌, IsTrue, List, [], ◌∷◌, map, Option, Result, Ok, Err, IfOk, inl, inr, subst, sym, ap, refl, ◌∙◌, arith}
 use Rattle.std.specs.List.{list_all}
 use Rattle.std.proofs.lemmas.Bool.{and_parts, and_from}
 use Rattle.std.proofs.lemmas.Bool.Decides.{leb_tells}
 use Rattle.std.proofs.lemmas.List.Folds.{list_all-map}
-use Rattle.lrc_base.specs.declared.grammar.Attr.{Attr}
+use Rattle.lrc_base.specs.declared.grammar.Kind.TheVariants as k
 use Rattle.lrc_base.specs.declared.grammar.Production.{Production}
 use Rattle.lrc_base.specs.declared.job.Edit.{Edit}
 use Rattle.lrc_base.specs.declared.job.Edit.TheVariants as edit
 use Rattle.lrc_base.specs.declared.job.Script.{Script}
 use Rattle.lrc_base.specs.declared.job.Job.{Job}
-use Rattle.lrc_meaning.specs.Tree.{Tree, tree}
-use Rattle.lrc_meaning.specs.Grammar.{Grammar, attrs_of_sort, is_well_formed}
+use Rattle.lrc_meaning.specs.Tree.{Tree, tree, fits}
+use Rattle.lrc_meaning.specs.Grammar.{Grammar, is_well_formed}
 use Rattle.lrc_meaning.specs.Editing.{Change, change, Reply, Attempt, ReplyRun, never_full}
 use Rattle.lrc_meaning.specs.Text.{unparsed, run_text}
+use Rattle.lrc_order_meaning.specs.Ordered.{Partitions, HasOrder}
+use Rattle.lrc_order_meaning.proofs.OrderLemmas.{has_order}
+use Rattle.lrc_laws.specs.Laws.{AttributionsAreUnique}
 use Rattle.lrc_reader.specs.Denotes.{Denotes}
-use Rattle.lrc_script.specs.declared.reply.Replies.{Replies}
-use Rattle.lrc_script.specs.Script.{is_fitting_put, are_fitting_puts, reply_of, IsSessionOf, SessionsAreUnique}
+use Rattle.lrc_grammar.specs.Grammar.{grammar_of}
 use Rattle.lrc_job.specs.Fitting.{edit_fits, script_fits}
 use Rattle.lrc_job.specs.Job.{Session, session, HasSessions}
 use Rattle.lrc_fault_laws.proofs.Grammars.{no_fault_is_named}
-use Rattle.lrc_cli.specs.Headline.{is_put, IsAccepted, IsBuilt, IsRunOf}
+use Rattle.lrc_plan.specs.declared.sequenced.Plan.{Plan}
+use Rattle.lrc_functions.specs.declared.functions.Functions.{Functions}
+use Rattle.lrc_store.specs.Standing.{Standing}
+use Rattle.lrc_session.specs.Sessions.{grammar}
+use Rattle.lrc_run.specs.declared.reply.Out.{Out}
+use Rattle.lrc_run.specs.Laws.{RunsOutOfRows}
+use Rattle.lrc_run.specs.Playing.{is_fitting_put, are_fitting_puts, Plays}
+use Rattle.lrc_cli.specs.Headline.{is_put, IsAccepted, IsBuilt, IsOrderedBy, HasPartitions, IsRunOf, IsRunWithRoom}
 use Rattle.lrc_cli.specs.Printed.{one_session}
-use Rattle.lrc_cli.specs.Running.{IsPlainSession}
+use Rattle.lrc_cli.specs.Running.{IsBuiltSession, IsSessionText}
+use Rattle.lrc_cli.proofs.OneLemmas.{one_session_of}
 use Rattle.lrc_cli.proofs.TextLemmas.{run_text-one_session}
 
--- ---- puts whose terms fit
+-- ---- the one session fits
 
+one_fits : (g : Grammar) (sessions : List Script) (script : Script) → sessions ≡ script ∷ [] → IsTrue (list_all (script_fits g.prods g.start) sessions) → IsTrue (script_fits g.prods g.start script)
+one_fits g sessions script one fit =
+    let alone : list_all (script_fits g.prods g.start) (script ∷ []) ≡ true = subst (λ (l : List Script). list_all (script_fits g.prods g.start) l ≡ true) one fit in
+    (and_parts (script_fits g.prods g.start script) true alone).0
+
+-- its tree is one of the start sort
+pub fitting_opening : (g : Grammar) (sessions : List Script) (script : Script) → sessions ≡ script ∷ [] → IsTrue (list_all (script_fits g.prods g.start) sessions)
+    → IsTrue (fits g.prods (tree script.tree) (k.Sort g.start))
+fitting_opening g sessions script one fit = (and_parts _ (list_all (edit_fits g.prods) script.edits) (one_fits g sessions script one fit)).0
+
+-- its puts are of terms that fit
 fitting_put : (prods : List Production) (e : Edit) → edit_fits prods e ≡ true → is_put (change e) ≡ true → is_fitting_put prods e ≡ true
 fitting_put prods (edit.Put path kind term) fits put = fits
 fitting_put prods (edit.Copy from to) fits put = absurd (cc)
@@ -43,9 +64,7 @@ each_fitting prods (e ∷ es) fit put =
 pub fitting_puts : (g : Grammar) (sessions : List Script) (script : Script) → sessions ≡ script ∷ [] → IsTrue (list_all (script_fits g.prods g.start) sessions)
     → IsTrue (list_all (λ (e : Edit). is_put (change e)) script.edits) → IsTrue (are_fitting_puts g.prods script.edits)
 fitting_puts g sessions script one fit puts =
-    let alone : list_all (script_fits g.prods g.start) (script ∷ []) ≡ true = subst (λ (l : List Script). list_all (script_fits g.prods g.start) l ≡ true) one fit in
-    let fits = and_parts (script_fits g.prods g.start script) true alone in
-    each_fitting g.prods script.edits (and_parts _ (list_all (edit_fits g.prods) script.edits) fits.0).1 puts
+    each_fitting g.prods script.edits (and_parts _ (list_all (edit_fits g.prods) script.edits) (one_fits g sessions script one fit)).1 puts
 
 -- ---- a text is accepted in one way
 
@@ -67,12 +86,12 @@ same_accepted one bytes g h ss ts a b =
 -- ---- the session that can be run
 
 -- the job of a session that can be run
-pub built : (bytes : List ℕ) (g : Grammar) (sessions : List Script) (script : Script) → IsPlainSession g sessions script → IsAccepted bytes g (map session sessions)
+pub built : (bytes : List ℕ) (g : Grammar) (sessions : List Script) (script : Script) → IsBuiltSession g sessions script → IsAccepted bytes g (map session sessions)
     → IsBuilt bytes g (tree script.tree) (map change script.edits)
-built bytes g sessions script p accepted = record {
-  accepted = subst (λ (l : List Script). IsAccepted bytes g (map session l)) p.one accepted;
-  plain = p.plain;
-  puts = list_all-map is_put change script.edits ∙ p.puts;
+built bytes g sessions script b accepted = record {
+  accepted = subst (λ (l : List Script). IsAccepted bytes g (map session l)) b.one accepted;
+  numbers = b.numbers;
+  puts = list_all-map is_put change script.edits ∙ b.puts;
 }
 
 -- one session alone among those that are accepted
@@ -82,7 +101,7 @@ alone (x ∷ []) s e = (x, refl, (cc))
 alone (x ∷ (y ∷ rest)) s e = absurd (cc)
 
 -- there is none to run, and so the job is not built
-pub not_built : OneJob → (bytes : List ℕ) (g : Grammar) (sessions : List Script) → IsAccepted bytes g (map session sessions) → ((script : Script) → ¬ IsPlainSession g sessions script)
+pub not_built : OneJob → (bytes : List ℕ) (g : Grammar) (sessions : List Script) → IsAccepted bytes g (map session sessions) → ((script : Script) → ¬ IsBuiltSession g sessions script)
     → (opening : Tree) (changes : List Change) → ¬ IsBuilt bytes g opening changes
 not_built one bytes g sessions accepted none opening changes b =
     let s : Session = record { opening = opening; changes = changes } in
@@ -91,7 +110,7 @@ not_built one bytes g sessions accepted none opening changes b =
     let edits : map change found.0.edits ≡ changes = ap (λ (x : Session). x.changes) found.2 in
     none found.0 (record {
       one = found.1;
-      plain = b.plain;
+      numbers = b.numbers;
       puts = sym (list_all-map is_put change found.0.edits) ∙ subst (λ (cs : List Change). list_all is_put cs ≡ true) (sym edits) b.puts;
     })
 
@@ -104,20 +123,71 @@ well_formed bytes g ss a =
     let same : found.0 ≡ g = cc in
     subst (λ (z : Grammar). IsTrue (is_well_formed z)) same found.2
 
--- the text of the replies is that of the run
-pub run_of : (bytes text : List ℕ) (depth : ℕ) (g : Grammar) (t : Tree) (edits : List Edit) (all : Replies) (attrs : List Attr) → IsBuilt bytes g t (map change edits) → IsSessionOf g depth t edits all →
-    attrs ≡ attrs_of_sort g.sorts g.start → text ≡ one_session attrs all → IsRunOf bytes depth text
-run_of bytes text depth g t edits all attrs b s is e = record {
-  grammar = g;
-  opening = t;
-  changes = map change edits;
-  built = b;
-  replies = map reply_of all.replies;
-  last = option_map tree all.last;
-  attempts = (s (unparsed g.prods)).0;
-  runs = (s (unparsed g.prods)).1;
-  prints = e ∙ sym (run_text-one_session g attrs all (well_formed bytes g _ b.accepted) is);
+-- ---- the plan of its grammar
+
+-- a well-formed grammar that is ordered without given pairs
+pub order_of : (g : Grammar) (found : Partitions) → IsTrue (is_well_formed g) → IsOrderedBy g found → HasOrder g found
+order_of g found formed o = has_order g [] found formed (λ i d less. absurd (omega arith)) o.ordered o.given o.partitions
+
+-- the partitions of an accepted job's grammar, whichever it is called
+pub partitions_of : (bytes : List ℕ) (g h : Grammar) (ss : List Session) (parts : Partitions) → IsAccepted bytes g ss → h ≡ g → IsOrderedBy g parts → HasPartitions bytes h parts
+partitions_of bytes g h ss parts accepted same ordered = record {
+  sessions = ss;
+  accepted = subst (λ (z : Grammar). IsAccepted bytes z ss) (sym same) accepted;
+  ordered = subst (λ (z : Grammar). IsOrderedBy z parts) (sym same) ordered;
 }
+
+-- the functions are of the plan of this grammar
+module _ (functions : Functions) (plan : Plan) (g : Grammar) (of_plan : functions.plan ≡ plan) (of_grammar : grammar_of plan.grammar ≡ g) where
+  same_grammar : grammar functions ≡ g
+  same_grammar = ap (λ (p : Plan). grammar_of p.grammar) of_plan ∙ of_grammar
+
+  pub order_moved : HasOrder g plan.parts → HasOrder (grammar functions) functions.plan.parts
+  order_moved order =
+      subst (λ (z : Grammar). HasOrder z functions.plan.parts) (sym same_grammar) (subst (λ (p : Plan). HasOrder g p.parts) (sym of_plan) order)
+
+  pub opening_moved : (t : Tree) → IsTrue (fits g.prods t (k.Sort g.start)) → IsTrue (fits functions.plan.grammar.prods t (k.Sort functions.plan.grammar.start))
+  opening_moved t fit = subst (λ (z : Grammar). IsTrue (fits z.prods t (k.Sort z.start))) (sym same_grammar) fit
+
+  pub puts_moved : (edits : List Edit) → IsTrue (are_fitting_puts g.prods edits) → IsTrue (are_fitting_puts functions.plan.grammar.prods edits)
+  puts_moved edits fit = subst (λ (z : Grammar). IsTrue (are_fitting_puts z.prods edits)) (sym same_grammar) fit
+
+  -- the text of its session is that of a run of the job
+  pub run_of : (bytes text : List ℕ) (rows depth : ℕ) (script : Script) → IsOrderedBy g plan.parts → IsBuilt bytes g (tree script.tree) (map change script.edits)
+      → IsSessionText functions rows depth script text → IsRunOf bytes rows depth text
+  run_of bytes text rows depth script ordered b is = record {
+    grammar = grammar functions;
+    parts = functions.plan.parts;
+    opening = tree script.tree;
+    changes = map change script.edits;
+    built = subst (λ (z : Grammar). IsBuilt bytes z (tree script.tree) (map change script.edits)) (sym same_grammar) b;
+    ordered = subst (λ (z : Grammar). IsOrderedBy z functions.plan.parts) (sym same_grammar) (subst (λ (p : Plan). IsOrderedBy g p.parts) (sym of_plan) ordered);
+    replies = is.replies;
+    last = is.last;
+    attempts = is.attempts;
+    runs = is.runs;
+    prints = is.prints;
+  }
+
+-- the text of a session that was played over a store with so many rows
+pub text_of_played : RunsOutOfRows → (functions : Functions) (rows depth : ℕ) (script : Script) (s : Standing) (out : Out) (text : List ℕ) → s.quota ≡ rows → Plays functions depth s script out
+    → text ≡ one_session out → IsSessionText functions rows depth script text
+text_of_played law functions rows depth script s out text quota plays e = record {
+  replies = plays.replies;
+  last = plays.last;
+  attempts = plays.attempts;
+  runs = law functions depth rows (unparsed functions.plan.grammar.prods) s (tree script.tree) (map change script.edits) plays.replies plays.last plays.attempts quota plays.runs;
+  prints = e ∙ sym (run_text-one_session (grammar functions) s plays.replies plays.last out plays.lines plays.is_last);
+}
+
+-- what is known of an answer, by what is known of each answer
+pub if_ok : {T E : Type 0} (r : Result T E) (P Q : T → Type 0) → IfOk r P → ((x : T) → P x → Q x) → IfOk r Q
+if_ok (Ok x) P Q p q = q x p
+if_ok (Err e) P Q p q = tt
+
+pub if_both_ok : {T E : Type 0} (r : Result T E) (P Q R : T → Type 0) → IfOk r P → IfOk r Q → ((x : T) → P x → Q x → R x) → IfOk r R
+if_both_ok (Ok x) P Q R p q both = both x p q
+if_both_ok (Err e) P Q R p q both = tt
 
 -- ---- the text of a run is fixed by the bytes of the job
 
@@ -143,11 +213,12 @@ same_text : (g h : Grammar) (rs qs : List Reply) (last end : Option Tree) → g 
 same_text g h rs qs last end e f k =
     ap (λ (z : Grammar). run_text z (rs ∷ []) (last ∷ [])) e ∙ ap (λ (z : List Reply). run_text h (z ∷ []) (last ∷ [])) f ∙ ap (λ (z : Option Tree). run_text h (qs ∷ []) (z ∷ [])) k
 
-pub one_text_of : OneJob → SessionsAreUnique → (bytes text other : List ℕ) (depth : ℕ) → IsRunOf bytes depth text → IsRunOf bytes depth other → text ≡ other
+pub one_text_of : OneJob → AttributionsAreUnique → (bytes text other : List ℕ) (depth : ℕ) → IsRunWithRoom bytes depth text → IsRunWithRoom bytes depth other → text ≡ other
 one_text_of one unique bytes text other depth a b =
     let same = same_session one bytes a.grammar b.grammar a.opening b.opening a.changes b.changes a.built b.built in
     let here = moved depth a.grammar b.grammar a.opening b.opening a.changes b.changes a.replies a.last a.attempts same.0 same.1 same.2 a.runs in
-    let answers = unique b.grammar depth (unparsed b.grammar.prods) b.opening b.changes a.replies b.replies a.last b.last a.attempts b.attempts (well_formed bytes b.grammar _ b.built.accepted) b.built.plain here b.runs in
+    let order = order_of b.grammar b.parts (well_formed bytes b.grammar _ b.built.accepted) b.ordered in
+    let answers = one_session_of unique b.grammar b.parts depth (unparsed b.grammar.prods) b.opening b.changes a.replies b.replies a.last b.last a.attempts b.attempts order here b.runs in
     a.prints ∙ same_text a.grammar b.grammar a.replies b.replies a.last b.last same.0 answers.0 answers.1 ∙ sym b.prints
 
 pub not_many : (b : Bool) (m n : ℕ) → (IsTrue b → n < m) × (n < m → IsTrue b) → b ≡ false → m ≤ n

@@ -1,51 +1,23 @@
 -- Lemmas on printed texts.
-use Rattle.std.proofs.Common.{◌≡◌, ℕ, zero, suc, ◌+◌, ◌<◌, ◌≤◌, min, ℤ, List, [], ◌∷◌, ◌++◌, codes, decimal, map, drop, length, get_or, ◌⊎◌, inl, inr, ap, sym, ◌∙◌, refl, arith, Bool, true, false, not, cond, IsTrue, ◌&&◌, Option, Some, None, option_map, eq-eqb, append_assoc}
-use Rattle.std.proofs.lemmas.List.{drop_all, append-nil}
-use Rattle.std.proofs.lemmas.Bool.{and_parts, and_from, not-true}
+use Rattle.std.proofs.Common.{◌≡◌, ℕ, ◌+◌, ◌<◌, List, [], ◌∷◌, ◌++◌, decimal, drop, length, get_or, ap, sym, ◌∙◌, refl, Bool, true, false, Option, Some, None, eq-eqb, append_assoc}
+use Rattle.std.proofs.lemmas.List.{append-nil}
+use Rattle.std.proofs.lemmas.Bool.{and_from}
 use Rattle.std.proofs.Math.Seq.{drop-length}
-use Rattle.std.specs.List.{list_all}
-use Rattle.std.specs.Fmt.{signed_decimal}
-use Rattle.lrc_base.specs.declared.grammar.Attr.{Attr}
-use Rattle.lrc_base.specs.declared.grammar.Production.{Production}
-use Rattle.lrc_base.specs.declared.term.Term.{Term}
-use Rattle.lrc_meaning.specs.Tree.{Tree, int, bool, name, node, Trees, none, more, same_tree, same_trees, if_same, tree}
+use Rattle.lrc_meaning.specs.Tree.{Tree, int, bool, name, node, Trees, none, more, same_tree, same_trees, if_same}
+use Rattle.lrc_meaning.specs.Editing.{Reply}
 use Rattle.lrc_meaning.specs.Text as text
-use Rattle.lrc_meaning.specs.Text.{named_values, limited, line_feed, run_text, synthesised_attrs}
-use Rattle.lrc_meaning.specs.Grammar.{Grammar, attrs_of_sort, is_well_formed, is_start_right}
+use Rattle.lrc_meaning.specs.Text.{line_feed, run_text}
+use Rattle.lrc_meaning.specs.Grammar.{Grammar}
 use Rattle.lrc_grammar.proofs.FittingLemmas.{next_left}
-use Rattle.lrc_script.specs.declared.reply.Reply.{Reply}
-use Rattle.lrc_script.specs.declared.reply.Reply.TheVariants as r
-use Rattle.lrc_script.specs.declared.reply.Replies.{Replies}
-use Rattle.lrc_script.specs.Script.{reply_of}
-use Rattle.lrc_cli.specs.Printed.{reply_body, reply_lines, final_number, one_session}
+use Rattle.lrc_store.specs.Standing.{Standing}
+use Rattle.lrc_store.specs.declared.cells.Handle.{Handle}
+use Rattle.lrc_run.specs.declared.reply.Line.{Line}
+use Rattle.lrc_run.specs.declared.reply.Out.{Out}
+use Rattle.lrc_run.specs.Lines.{AreLines}
+use Rattle.lrc_run.specs.Playing.{IsLast}
+use Rattle.lrc_cli.specs.Printed.{numbered_lines, final_number, one_session}
 use Rattle.std.proofs.lemmas.Slice.Eq.{bytes_eq-Decides}
 use Rattle.std.proofs.lemmas.Bool.Decides.{Decides-int_eq}
-
-and_right : (a b : Bool) → (a && b) ≡ true → b ≡ true
-and_right a b e = (and_parts a b e).1
-
-at_most_or : (m k : ℕ) → (m ≤ k) ⊎ (k ≤ m)
-at_most_or zero k = inl (omega arith)
-at_most_or (suc m) zero = inr (omega arith)
-at_most_or (suc m) (suc k) = elim (at_most_or m k) [ inl h ↦ inl (omega arith) | inr h ↦ inr (omega arith) ]
-
-named_values-none : (attrs : List Attr) → named_values [] attrs [] ≡ []
-named_values-none [] = refl
-named_values-none (a ∷ rest) = refl
-
--- once the attributes or the values are at their end, nothing is left to print
-pub named_values-end : (n : ℕ) (attrs : List Attr) (vs : List ℤ) → n ≡ min (length attrs) (length vs) →
-    named_values [] (drop n attrs) (map int (drop n vs)) ≡ []
-named_values-end n attrs vs e = elim (at_most_or (length attrs) (length vs)) [
-  | inl h ↦ ap (λ (z : List Attr). named_values [] z (map int (drop n vs))) (drop_all n attrs (omega arith))
-  | inr h ↦ ap (λ (z : List ℤ). named_values [] (drop n attrs) (map int z)) (drop_all n vs (omega arith)) ∙ named_values-none (drop n attrs)
-]
-
--- numbers print alike whatever the productions are
-pub named_values-int : (prods : List Production) (attrs : List Attr) (vs : List ℤ) → named_values prods attrs (map int vs) ≡ named_values [] attrs (map int vs)
-named_values-int prods [] vs = refl
-named_values-int prods (a ∷ rest) [] = refl
-named_values-int prods (a ∷ rest) (v ∷ vs) = ap (λ z. codes " " ++ (a.name ++ (codes "=" ++ (limited (signed_decimal v) ++ z)))) (named_values-int prods rest vs)
 
 bool_again : (b : Bool) → if_same b b ≡ true
 bool_again true = refl
@@ -63,53 +35,40 @@ mutual
   same_trees-itself none = refl
   same_trees-itself (more t ts) = and_from _ _ (same_tree-itself t) (same_trees-itself ts)
 
--- where nothing is inherited, each attribute is synthesised
-all_synthesised : (attrs : List Attr) → list_all (λ (a : Attr). not a.inherited) attrs ≡ true → synthesised_attrs attrs ≡ attrs
-all_synthesised [] e = refl
-all_synthesised (a ∷ rest) e =
-    let parts = and_parts (not a.inherited) (list_all (λ (a : Attr). not a.inherited) rest) e in
-    ap (λ z. cond z (synthesised_attrs rest) (a ∷ synthesised_attrs rest)) (not-true _ parts.0) ∙ ap (λ (z : List Attr). a ∷ z) (all_synthesised rest parts.1)
+-- what is left to print of the lines
+next_lines : (i : ℕ) (lines : List Line) (line : Line) → i < length lines → line ≡ get_or lines i line →
+    numbered_lines i (drop i lines) ≡ decimal i ++ (line.body ++ (line_feed ++ numbered_lines (i + 1) (drop (i + 1) lines)))
+next_lines i lines line h is = ap (numbered_lines i) (next_left lines i line h is)
 
-pub start_synthesised : (g : Grammar) → IsTrue (is_well_formed g) → synthesised_attrs (attrs_of_sort g.sorts g.start) ≡ attrs_of_sort g.sorts g.start
-start_synthesised g w = all_synthesised _ (and_right _ _ (and_right _ (is_start_right g.sorts g.start) w))
+pub one_line_more : (i : ℕ) (lines : List Line) (line : Line) (before after numbered told : List ℕ) → i < length lines → line ≡ get_or lines i line →
+    numbered ≡ before ++ decimal i → told ≡ numbered ++ line.body → after ≡ told ++ line_feed →
+    after ++ numbered_lines (i + 1) (drop (i + 1) lines) ≡ before ++ numbered_lines i (drop i lines)
+one_line_more i lines line before after numbered told h is a b c =
+    let left = next_lines i lines line h is in simp (left, a, b, c, append_assoc)
 
--- what is left to print of the replies
-next_lines : (attrs : List Attr) (i : ℕ) (replies : List Reply) (reply : Reply) → i < length replies → reply ≡ get_or replies i reply →
-    reply_lines attrs i (drop i replies) ≡ decimal i ++ (reply_body attrs reply ++ (line_feed ++ reply_lines attrs (i + 1) (drop (i + 1) replies)))
-next_lines attrs i replies reply h is = ap (reply_lines attrs i) (next_left replies i reply h is)
+-- after the last line nothing is left to print
+pub no_line_more : (i : ℕ) (lines : List Line) (text : List ℕ) → i ≡ length lines → text ++ numbered_lines i (drop i lines) ≡ text
+no_line_more i lines text e = ap (λ (z : List Line). text ++ numbered_lines i z) (ap (λ n. drop n lines) e ∙ drop-length lines) ∙ append-nil text
 
-pub one_line_more : (attrs : List Attr) (i : ℕ) (replies : List Reply) (reply : Reply) (before after numbered replied : List ℕ) → i < length replies → reply ≡ get_or replies i reply →
-    numbered ≡ before ++ decimal i → replied ≡ numbered ++ reply_body attrs reply → after ≡ replied ++ line_feed →
-    after ++ reply_lines attrs (i + 1) (drop (i + 1) replies) ≡ before ++ reply_lines attrs i (drop i replies)
-one_line_more attrs i replies reply before after numbered replied h is a b c =
-    let left = next_lines attrs i replies reply h is in simp (left, a, b, c, append_assoc)
+-- the lines are those of the replies
+lines_are : (g : Grammar) (n : ℕ) (replies : List Reply) (lines : List Line) → AreLines g replies lines → text.reply_lines g n replies ≡ numbered_lines n lines
+lines_are g n [] [] are = refl
+lines_are g n [] (line ∷ lines) are = absurd are
+lines_are g n (reply ∷ replies) [] are = absurd are
+lines_are g n (reply ∷ replies) (line ∷ lines) are =
+    ap (λ z. decimal n ++ (z ++ (line_feed ++ text.reply_lines g (n + 1) replies))) (sym are.0.body)
+    ∙ ap (λ z. decimal n ++ (line.body ++ (line_feed ++ z))) (lines_are g (n + 1) replies lines are.1)
 
--- after the last reply nothing is left to print
-pub no_line_more : (attrs : List Attr) (i : ℕ) (replies : List Reply) (text : List ℕ) → i ≡ length replies → text ++ reply_lines attrs i (drop i replies) ≡ text
-no_line_more attrs i replies text e = ap (λ (z : List Reply). text ++ reply_lines attrs i z) (ap (λ n. drop n replies) e ∙ drop-length replies) ∙ append-nil text
+-- the one session's last tree is that of the first session
+final_number-is : (s : Standing) (last : Option Tree) (handle : Option Handle) → IsLast s last handle → text.final_number (last ∷ []) last ≡ final_number handle
+final_number-is s None None is = refl
+final_number-is s None (Some handle) is = absurd is
+final_number-is s (Some t) None is = absurd is
+final_number-is s (Some t) (Some handle) is = let same = same_tree-itself t in simp (same)
 
--- a reply prints as the editing rules' reply does
-reply_body-is : (g : Grammar) (attrs : List Attr) (reply : Reply) → synthesised_attrs (attrs_of_sort g.sorts g.start) ≡ attrs → text.reply_body g (reply_of reply) ≡ reply_body attrs reply
-reply_body-is g attrs (r.Values numbers) e = ap (λ (z : List Attr). named_values g.prods z (map int numbers)) e ∙ named_values-int g.prods attrs numbers
-reply_body-is g attrs r.BadPath e = refl
-reply_body-is g attrs r.WrongSort e = refl
-reply_body-is g attrs r.TooDeep e = refl
-reply_body-is g attrs r.Unopened e = refl
-
-reply_lines-are : (g : Grammar) (attrs : List Attr) (n : ℕ) (replies : List Reply) → synthesised_attrs (attrs_of_sort g.sorts g.start) ≡ attrs →
-    text.reply_lines g n (map reply_of replies) ≡ reply_lines attrs n replies
-reply_lines-are g attrs n [] e = refl
-reply_lines-are g attrs n (reply ∷ rest) e =
-    ap (λ z. decimal n ++ (z ++ (line_feed ++ text.reply_lines g (n + 1) (map reply_of rest)))) (reply_body-is g attrs reply e)
-    ∙ ap (λ z. decimal n ++ (reply_body attrs reply ++ (line_feed ++ z))) (reply_lines-are g attrs (n + 1) rest e)
-
-final_number-is : (last : Option Term) → text.final_number (option_map tree last ∷ []) (option_map tree last) ≡ final_number last
-final_number-is None = refl
-final_number-is (Some t) = let same = same_tree-itself (tree t) in simp (same)
-
--- the text of a session's replies is that of a run of the session alone
-pub run_text-one_session : (g : Grammar) (attrs : List Attr) (all : Replies) → IsTrue (is_well_formed g) → attrs ≡ attrs_of_sort g.sorts g.start →
-    run_text g (map reply_of all.replies ∷ []) (option_map tree all.last ∷ []) ≡ one_session attrs all
-run_text-one_session g attrs all w is =
-    let lines = reply_lines-are g attrs 0 all.replies (start_synthesised g w ∙ sym is) in
-    let final = final_number-is all.last in simp (lines, final, append_assoc)
+-- the text of a session's lines is that of a run of the session alone
+pub run_text-one_session : (g : Grammar) (s : Standing) (replies : List Reply) (last : Option Tree) (out : Out) → AreLines g replies out.lines → IsLast s last out.last →
+    run_text g (replies ∷ []) (last ∷ []) ≡ one_session out
+run_text-one_session g s replies last out are is =
+    let lines = lines_are g 0 replies out.lines are in
+    let final = final_number-is s last out.last is in simp (lines, final, append_assoc)

@@ -1,5 +1,5 @@
 -- Why an input is refused, and what is told of it.
-use Rattle.std.proofs.Common.{◌≡◌, ℕ, Bool, true, false, ◌<◌, ◌≤◌, ◌*◌, List, [], ◌∷◌, length, take, drop, ◌++◌, min, Option, Some, None, Result, Ok, Err, IfOk, IfErr, OnErr, IsErrAnd, All, MatchBool, ◌⊎◌, inl, inr, ◌≢◌, refl, sym, arith, ap, ◌∙◌, subst, IsTrue}
+use Rattle.std.proofs.Common.{◌≡◌, ℕ, Bool, true, false, ◌<◌, ◌≤◌, ◌*◌, List, [], ◌∷◌, map, length, take, Option, Some, None, Result, Ok, Err, IfErr, IsErrAnd, All, MatchBool, ◌⊎◌, inl, inr, ◌≢◌, refl, sym, arith, ap, ◌∙◌, subst, IsTrue}
 use Rattle.std.proofs.lemmas.List.{drop_all, take_all, take-append-drop, length-take}
 use Rattle.std.proofs.lemmas.Grind.{common_steps}
 use Rattle.std.specs.Prelude.{String}
@@ -29,14 +29,16 @@ use Rattle.lrc_reader.specs.declared.fault.JobFault.TheVariants as text
 use Rattle.lrc_job.specs.declared.fault.AcceptFault.{AcceptFault}
 use Rattle.lrc_job.specs.declared.fault.AcceptFault.TheVariants as accept
 use Rattle.lrc_reader.specs.Faults.{FirstTextFault}
-use Rattle.lrc_job.specs.Job.{Session, HasSessions, IsFaultOf}
+use Rattle.lrc_job.specs.Job.{Session, session, HasSessions, IsFaultOf}
+use Rattle.lrc_base.specs.declared.job.Script.{Script}
 use Rattle.lrc_meaning.specs.Tree.{Tree}
 use Rattle.lrc_meaning.specs.Editing.{Change}
 use Rattle.lrc_meaning.specs.Grammar.{Grammar}
 use Rattle.lrc_failures.specs.Taken.{failure_of_text, failure_of_job}
 use Rattle.lrc_cli.specs.Headline.{IsAccepted, IsBuilt, IsOutputOf, IsBuiltFor}
-use Rattle.lrc_cli.specs.Causes.{row_limit, IsCycleAt, IsUnbuiltVerb, IsBuiltVerb, ReadsNothing, TellsOrder, IsUnordered, has_cycle, has_no_memory, IsCause, no_job, not_accepted, too_many_rows, no_run, not_ordered, no_memory}
-use Rattle.lrc_cli.proofs.RunLemmas.{OneJob, same_accepted}
+use Rattle.lrc_cli.specs.Causes.{row_limit, IsCycleAt, IsUnbuiltVerb, IsBuiltVerb, ReadsNothing, TellsOrder, IsUnordered, has_cycle, has_no_memory, IsCause, no_job, not_accepted, too_many_rows, no_run, not_ordered, not_ordered_to_run, no_memory}
+use Rattle.lrc_cli.specs.Running.{IsBuiltSession}
+use Rattle.lrc_cli.proofs.RunLemmas.{OneJob, same_accepted, built}
 use Rattle.lrc_cli.specs.Status.{input_limit, IsReadWhole, Done, Unwritten, IsRefused, unread, read, Refused, HoldsJob, is_refusal}
 
 pub keeps_itself : (a : Option (List ℕ)) → Keeps a a
@@ -97,6 +99,7 @@ is_cause command input _ (not_accepted job fault some denotes is) = refl
 is_cause command input _ (too_many_rows g sessions accepted run many) = refl
 is_cause command input _ (no_run g sessions accepted run few none) = refl
 is_cause command input _ (not_ordered g sessions cycle accepted check is) = refl
+is_cause command input _ (not_ordered_to_run g opening changes cycle run few b is) = refl
 is_cause command input _ no_memory = refl
 
 -- no cause is one of words, of reading or of writing
@@ -125,33 +128,33 @@ read_whole n (Some xs) left' input t h =
     let short : length xs ≤ n = few n xs (let e = ap length t.0 in omega arith) in
     (t.0 ∙ grind (arith, common_steps), t.1 ∙ ap Some (drop_all n xs short))
 
-short_output : (v : Verb) (depth : ℕ) (input text : List ℕ) → IsOutputOf v depth input text → length input < input_limit
-short_output verb.Run depth input text r = let short : length input ≤ TEXT_LIMIT = r.built.accepted.denotes.short in omega arith
-short_output verb.Solo depth input text r = absurd r
-short_output verb.Check depth input text r = let short : length input ≤ TEXT_LIMIT = r.has.accepted.denotes.short in omega arith
-short_output verb.Plan depth input text r = let short : length input ≤ TEXT_LIMIT = r.has.accepted.denotes.short in omega arith
-short_output verb.Gen depth input text r = absurd r
+short_output : (v : Verb) (rows depth : ℕ) (input text : List ℕ) → IsOutputOf v rows depth input text → length input < input_limit
+short_output verb.Run rows depth input text r = let short : length input ≤ TEXT_LIMIT = r.built.accepted.denotes.short in omega arith
+short_output verb.Solo rows depth input text r = absurd r
+short_output verb.Check rows depth input text r = let short : length input ≤ TEXT_LIMIT = r.has.accepted.denotes.short in omega arith
+short_output verb.Plan rows depth input text r = let short : length input ≤ TEXT_LIMIT = r.has.accepted.denotes.short in omega arith
+short_output verb.Gen rows depth input text r = absurd r
 
 pub done : (words : List (String Global)) (left left' held held' : Option (List ℕ)) (command : Command) (input text : List ℕ) → Says (texts words) command
-    → TakesUpTo input_limit left left' input → IsOutputOf command.verb command.depth input text → Appends held held' text → Done words left left' held held'
+    → TakesUpTo input_limit left left' input → IsOutputOf command.verb command.rows command.depth input text → Appends held held' text → Done words left left' held held'
 done words left left' held held' command input text says t r a = record {
   command = command;
   says = says;
   input = input;
   text = text;
-  read = read_whole input_limit left left' input t (short_output command.verb command.depth input text r);
+  read = read_whole input_limit left left' input t (short_output command.verb command.rows command.depth input text r);
   output = r;
   written = a;
 }
 
 pub unwritten : (words : List (String Global)) (left left' held held' : Option (List ℕ)) (command : Command) (input text : List ℕ) → Says (texts words) command
-    → TakesUpTo input_limit left left' input → IsOutputOf command.verb command.depth input text → AppendsPart held held' text → Unwritten words left left' held held'
+    → TakesUpTo input_limit left left' input → IsOutputOf command.verb command.rows command.depth input text → AppendsPart held held' text → Unwritten words left left' held held'
 unwritten words left left' held held' command input text says t r a = record {
   command = command;
   says = says;
   input = input;
   text = text;
-  read = read_whole input_limit left left' input t (short_output command.verb command.depth input text r);
+  read = read_whole input_limit left left' input t (short_output command.verb command.rows command.depth input text r);
   output = r;
   part = a;
 }
@@ -212,11 +215,22 @@ is_refusal_of f.NotBuilt h = refl
 is_refusal_of (f.NotOrdered cycle) h = refl
 is_refusal_of f.Memory h = absurd (elim h [ inl e ↦ above 7 5 (omega arith) e | inr e ↦ above 7 6 (omega arith) e ])
 
--- a grammar that is not ordered is a cause of `check`
+-- what is known of an error, by what is known of each error
+pub err_more : {T : Type 0} (r : Result T Failure) (P Q : Failure → Type 0) → IfErr r P → ((x : Failure) → P x → Q x) → IfErr r Q
+err_more (Ok t) P Q p q = tt
+err_more (Err x) P Q p q = q x p
+
+-- a grammar that is not ordered is a cause of `check`, and of a run
 pub unordered_cause : (command : Command) (input : List ℕ) (g : Grammar) (sessions : List Session) (failure : Failure) → IsAccepted input g sessions → TellsOrder command
     → IsUnordered g failure → IsCause command input failure
 unordered_cause command input g sessions _ accepted check (has_cycle cycle is) = not_ordered g sessions cycle accepted check is
 unordered_cause command input g sessions _ accepted check has_no_memory = no_memory
+
+pub unordered_to_run_cause : (command : Command) (input : List ℕ) (g : Grammar) (sessions : List Script) (script : Script) (failure : Failure) → command.verb ≡ verb.Run → command.rows ≤ row_limit
+    → IsAccepted input g (map session sessions) → IsBuiltSession g sessions script → IsUnordered g failure → IsCause command input failure
+unordered_to_run_cause command input g sessions script _ run few accepted b (has_cycle cycle is) =
+    not_ordered_to_run g _ _ cycle run few (built input g sessions script b accepted) is
+unordered_to_run_cause command input g sessions script _ run few accepted b has_no_memory = no_memory
 
 -- the statuses 5 and 6, and want of memory, are all that is left
 pub done_or_memory : (failure : Failure) → failure ≢ f.Usage → failure ≢ f.Read → failure ≢ f.Write → ¬ IsTrue (is_refusal failure) → (status_of failure ≡ 0) ⊎ (status_of failure ≡ 7)
@@ -292,18 +306,21 @@ ordered_has_none g cycle true p x ordered c = no_cycle g.prods (ExtendedPath g [
 ordered_has_none g cycle false p x ordered c = no_cycle g.prods (Leads g []) p x ordered.induced c
 
 run_not_refused : OneJob → (command : Command) (bytes : List ℕ) (g : Grammar) (opening : Tree) (changes : List Change) (failure : Failure) → IsWithinRanges command → command.verb ≡ verb.Run
-    → IsBuilt bytes g opening changes → IsTrue (is_refusal failure) → IsCause command bytes failure → ⊥
-run_not_refused one command bytes g opening changes _ within run b r (no_job fault some is none) = none b.accepted.job b.accepted.denotes
-run_not_refused one command bytes g opening changes _ within run b r (not_accepted job fault some denotes is) =
+    → IsBuilt bytes g opening changes → IsOrdered g [] → IsTrue (is_refusal failure) → IsCause command bytes failure → ⊥
+run_not_refused one command bytes g opening changes _ within run b ordered r (no_job fault some is none) = none b.accepted.job b.accepted.denotes
+run_not_refused one command bytes g opening changes _ within run b ordered r (not_accepted job fault some denotes is) =
     no_fault job g _ fault (subst (λ (j : Job). HasSessions j g (Ok (record { opening = opening; changes = changes } ∷ []))) (one bytes b.accepted.job job b.accepted.denotes denotes) b.accepted.accepted) some is
-run_not_refused one command bytes g opening changes _ within run b r (too_many_rows h sessions accepted verb many) =
+run_not_refused one command bytes g opening changes _ within run b ordered r (too_many_rows h sessions accepted verb many) =
     let same = same_accepted one bytes h g sessions _ accepted b.accepted in
     few_rows command.rows (length sessions) (ap length same.1) within.rows.1 many
-run_not_refused one command bytes g opening changes _ within run b r (no_run h sessions accepted verb few none) =
+run_not_refused one command bytes g opening changes _ within run b ordered r (no_run h sessions accepted verb few none) =
     let same = same_accepted one bytes h g sessions _ accepted b.accepted in
     none opening changes (subst (λ (z : Grammar). IsBuilt bytes z opening changes) (sym same.0) b)
-run_not_refused one command bytes g opening changes _ within run b r (not_ordered h sessions cycle accepted tells is) = runs_tell_nothing command run tells
-run_not_refused one command bytes g opening changes _ within run b r no_memory = absurd (cc)
+run_not_refused one command bytes g opening changes _ within run b ordered r (not_ordered h sessions cycle accepted tells is) = runs_tell_nothing command run tells
+run_not_refused one command bytes g opening changes _ within run b ordered r (not_ordered_to_run h other edits cycle verb few c is) =
+    let same = same_accepted one bytes h g _ _ c.accepted b.accepted in
+    ordered_has_none h cycle cycle.is_extended is.production is.occurrence (subst (λ (z : Grammar). IsOrdered z []) (sym same.0) ordered) is.found
+run_not_refused one command bytes g opening changes _ within run b ordered r no_memory = absurd (cc)
 
 order_not_refused : OneJob → (command : Command) (bytes : List ℕ) (g : Grammar) (ss : List Session) (failure : Failure) → TellsOrder command → IsAccepted bytes g ss → IsOrdered g []
     → IsTrue (is_refusal failure) → IsCause command bytes failure → ⊥
@@ -315,11 +332,12 @@ order_not_refused one command bytes g ss _ tells b ordered r (no_run h sessions 
 order_not_refused one command bytes g ss _ tells b ordered r (not_ordered h sessions cycle accepted too is) =
     let same = same_accepted one bytes h g sessions ss accepted b in
     ordered_has_none h cycle cycle.is_extended is.production is.occurrence (subst (λ (z : Grammar). IsOrdered z []) (sym same.0) ordered) is.found
+order_not_refused one command bytes g ss _ tells b ordered r (not_ordered_to_run h opening changes cycle run few c is) = runs_tell_nothing command run tells
 order_not_refused one command bytes g ss _ tells b ordered r no_memory = absurd (cc)
 
 not_refused_for : OneJob → (command : Command) (bytes : List ℕ) (v : Verb) → command.verb ≡ v → IsBuiltFor v bytes → (failure : Failure) → IsWithinRanges command
     → IsTrue (is_refusal failure) → IsCause command bytes failure → ⊥
-not_refused_for one command bytes verb.Run is h failure within r cause = run_not_refused one command bytes h.0 h.1 h.2 failure within is h.3 r cause
+not_refused_for one command bytes verb.Run is h failure within r cause = run_not_refused one command bytes h.0 h.1 h.2 failure within is h.3 h.4 r cause
 not_refused_for one command bytes verb.Solo is h failure within r cause = h
 not_refused_for one command bytes verb.Check is h failure within r cause = order_not_refused one command bytes h.0 h.1 failure (inl is) h.2 h.3 r cause
 not_refused_for one command bytes verb.Plan is h failure within r cause = order_not_refused one command bytes h.0 h.1 failure (inr is) h.2 h.3 r cause
@@ -354,7 +372,3 @@ not_refused one words command (Some bytes) left' failure says job r refused = by
         let short = short_job refused.command.verb bytes moved in
         let whole : input ≡ bytes = taken.0 ∙ take_all input_limit bytes (omega arith) in
         not_refused_for one refused.command bytes refused.command.verb refl moved failure refused.within r (subst (λ (z : List ℕ). IsCause refused.command z failure) whole cause)
-
-pub if_ok : {T E : Type 0} (r : Result T E) (P Q : T → Type 0) → IfOk r P → ((x : T) → P x → Q x) → IfOk r Q
-if_ok (Ok x) P Q p q = q x p
-if_ok (Err e) P Q p q = tt

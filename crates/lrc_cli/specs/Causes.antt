@@ -1,5 +1,5 @@
--- Why a job is refused, in the order in which faults are looked for: its text, its acceptance, the rows of its
--- sessions, what is not built yet, and for commands that ask for it the ordered test before that.
+-- Why a job is refused, in the order in which faults are looked for: its text, its acceptance, for a run the rows of its
+-- sessions and what is not built yet, and then the ordered test.
 use Rattle.std.specs.Prelude.{◌≡◌, ◌≢◌, ◌⊎◌, ℕ, ◌*◌, ◌<◌, ◌≤◌, Bool, true, false, List, [], length, Some, slice_get}
 use Rattle.lrc_base.specs.declared.limits.TheConstants.{ROW_LIMIT}
 use Rattle.lrc_base.specs.declared.job.Job.{Job}
@@ -77,7 +77,7 @@ IsBuiltVerb v = (v ≡ verb.Run) ⊎ ((v ≡ verb.Check) ⊎ (v ≡ verb.Plan))
 abbrev pub ReadsNothing : Verb → Type 0
 ReadsNothing v = IsUnbuiltVerb v ⊎ (v ≡ verb.Gen)
 
--- the command tells whether a grammar is ordered
+-- the command tells of any job whether its grammar is ordered
 abbrev pub TellsOrder : Command → Type 0
 TellsOrder command = (command.verb ≡ verb.Check) ⊎ (command.verb ≡ verb.Plan)
 
@@ -91,4 +91,6 @@ pub data IsCause (command : Command) (input : List ℕ) : Failure → Type 0 whe
       → ((opening : Tree) (changes : List Change) → ¬ IsBuilt input g opening changes) → IsCause command input f.NotBuilt
   not_ordered : (g : Grammar) (sessions : List Session) (cycle : Cycle) → IsAccepted input g sessions → TellsOrder command → IsCycle g cycle
       → IsCause command input (f.NotOrdered cycle)
+  not_ordered_to_run : (g : Grammar) (opening : Tree) (changes : List Change) (cycle : Cycle) → command.verb ≡ verb.Run → command.rows ≤ row_limit → IsBuilt input g opening changes
+      → IsCycle g cycle → IsCause command input (f.NotOrdered cycle)
   no_memory : IsCause command input f.Memory

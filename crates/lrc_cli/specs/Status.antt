@@ -27,7 +27,7 @@ pub record Done (words : List (String Global)) (left left' held held' : Option (
   pub input : List ℕ
   pub text : List ℕ
   pub read : IsReadWhole left left' input
-  pub output : IsOutputOf command.verb command.depth input text
+  pub output : IsOutputOf command.verb command.rows command.depth input text
   pub written : Appends held held' text
 
 -- Status 4: as with status 0, but the sink gained a part of the text only, from its front.
@@ -37,7 +37,7 @@ pub record Unwritten (words : List (String Global)) (left left' held held' : Opt
   pub input : List ℕ
   pub text : List ℕ
   pub read : IsReadWhole left left' input
-  pub output : IsOutputOf command.verb command.depth input text
+  pub output : IsOutputOf command.verb command.rows command.depth input text
   pub part : AppendsPart held held' text
 
 -- Statuses 5 and 6: the command is not built and nothing was read; or it is built, and what was read, the whole or one

@@ -1,9 +1,8 @@
-ghost use Rattle.std.specs.Prelude.{◌≡◌, ◌<◌, [], true, false, length, slice_get, Some, IfOk, OnOk, IfErr, ⊤};
-ghost use Rattle.lrc_meaning.specs.Grammar.{Grammar};
+ghost use Rattle.std.specs.Prelude.{◌≡◌, [], IfOk, IfErr};
 ghost use Rattle.lrc_grammar.specs.Grammar.{grammar_of};
 ghost use Rattle.lrc_ordered.specs.Faults.{IsOrderFault};
 ghost use Rattle.lrc_cli.specs.Causes.{IsPlaced, IsNamed, IsCycleAt, IsUnordered, TellsOrder, IsCause};
-ghost use Rattle.lrc_cli.specs.Headline.{HasPartitions, IsPartsOf, IsPlanOf};
+ghost use Rattle.lrc_cli.specs.Headline.{IsOrderedBy, HasPartitions, IsPartsOf, IsPlanOf};
 
 use crate::job::accepted_job;
 use lrc_base::Bytes;
@@ -55,6 +54,23 @@ fn failure_of(grammar: &Grammar, fault: OrderFault) -> Failure
     }
 }
 
+/// The plan of a grammar.
+///
+/// # Errors
+///
+/// That the grammar is not ordered, and want of memory.
+pub fn plan_of(alloc: Global, grammar: &Grammar) -> Result<Plan, Failure>
+    ensures grammar { IfOk result (λ plan. grammar_of plan.grammar ≡ grammar_of grammar.now) }
+    ensures parts { IfOk result (λ plan. IsOrderedBy (grammar_of grammar.now) plan.parts) }
+    ensures fault { IfErr result (IsUnordered (grammar_of grammar.now)) }
+{
+    let copy = grammar.copy(alloc)?;
+    match ordered(alloc, grammar) {
+        Ok(parts) => Ok(plan(alloc, copy, parts)?),
+        Err(fault) => Err(failure_of(grammar, fault)),
+    }
+}
+
 /// The plan of the grammar of the job that the bytes denote.
 ///
 /// # Errors
@@ -66,11 +82,7 @@ fn planned(alloc: Global, command: &Command, bytes: &[u8]) -> Result<Plan, Failu
     ensures cause { IfErr result (IsCause command.now bytes.now) }
 {
     let accepted = accepted_job(alloc, bytes)?;
-    let grammar = accepted.grammar.copy(alloc)?;
-    match ordered(alloc, &accepted.grammar) {
-        Ok(parts) => Ok(plan(alloc, grammar, parts)?),
-        Err(fault) => Err(failure_of(&accepted.grammar, fault)),
-    }
+    plan_of(alloc, &accepted.grammar)
 }
 
 /// The text of the partitions of a job's grammar.

@@ -1,27 +1,37 @@
-ghost use Rattle.std.specs.Prelude.{◌≡◌, ◌↔◌, ◌<◌, ◌*◌, ℕ, IsTrue, List, [], ◌∷◌, map, length, IfOk, IfErr, IfSome, MatchOption};
+ghost use Rattle.std.specs.Prelude.{◌≡◌, ◌↔◌, ◌<◌, ◌≤◌, ◌*◌, ℕ, IsTrue, List, map, IfOk, IfErr, MatchOption};
 ghost use Rattle.std.specs.List.{list_all};
+ghost use Rattle.lrc_base.specs.declared.limits.TheConstants.{ROW_LIMIT};
 ghost use Rattle.lrc_base.specs.declared.job.Script as base;
 ghost use Rattle.lrc_base.specs.declared.job.Edit as base-edit;
-ghost use Rattle.lrc_meaning.specs.Plain.{is_plain};
-ghost use Rattle.lrc_meaning.specs.Tree.{Tree};
-ghost use Rattle.lrc_meaning.specs.Editing.{Change, change};
+ghost use Rattle.lrc_meaning.specs.Tree.{tree};
+ghost use Rattle.lrc_meaning.specs.Editing.{change};
+ghost use Rattle.lrc_order_meaning.specs.Ordered.{HasOrder};
 ghost use Rattle.lrc_grammar.specs.Grammar.{grammar_of};
 ghost use Rattle.lrc_job.specs.Job.{session};
+ghost use Rattle.lrc_session.specs.Sessions.{IsStartTree};
+ghost use Rattle.lrc_run.specs.Playing.{are_fitting_puts};
 ghost use Rattle.lrc_words.specs.declared.command.Command.{Command};
 ghost use Rattle.lrc_words.specs.declared.command.Verb.TheVariants as v;
-ghost use Rattle.lrc_cli.specs.Headline.{is_put, IsAccepted, IsRunOf};
-ghost use Rattle.lrc_cli.specs.Causes.{row_limit, IsCause};
-ghost use Rattle.lrc_cli.specs.Running.{IsPlainSession};
+ghost use Rattle.lrc_words.specs.CommandLine.{IsWithinRanges};
+ghost use Rattle.lrc_cli.specs.Headline.{is_put, is_number, IsAccepted, HasRoom, IsRunOf, IsRunWithRoom};
+ghost use Rattle.lrc_cli.specs.Causes.{row_limit, IsUnordered, IsCause};
+ghost use Rattle.lrc_cli.specs.Running.{IsBuiltSession, IsSessionText};
 
 use crate::job::accepted_job;
+use crate::order::plan_of;
 use crate::text::session_text;
 use lrc_base::limits::ROW_LIMIT;
-use lrc_base::{Edit, Memory, Script};
+use lrc_base::{Attr, Edit, Kind, Memory, Script};
+use lrc_bodies::VisitMeaning;
 use lrc_failures::Failure;
+use lrc_functions::Functions;
 use lrc_grammar::attrs_of_sort;
 use lrc_job::Accepted;
+use lrc_laws::attribution_is_unique;
+use lrc_plain::PlainStore;
 use lrc_reader::one_job;
-use lrc_script::{one_session, replies};
+use lrc_run::{play, runs_out_of_rows};
+use lrc_store::Store;
 use lrc_words::Command;
 use std::alloc::Global;
 
@@ -44,45 +54,89 @@ fn are_puts(edits: &[Edit]) -> bool
     edits.iter().all(is_put)
 }
 
-/// The session of a job that can be run: there is no other, its edits are puts, and the grammar is
-/// plain.
-fn plain_session(accepted: &Accepted) -> Option<&Script>
-    ensures { MatchOption result ((script : base.Script) → ¬ IsPlainSession (grammar_of accepted.now.grammar) accepted.now.sessions script) (λ script. IsPlainSession (grammar_of accepted.now.grammar) accepted.now.sessions script.now) }
+fn is_number(attr: &Attr) -> bool
+    ensures { result ≡ is_number attr.now }
+{
+    attr.kind == Kind::Int
+}
+
+fn are_numbers(attrs: &[Attr]) -> bool
+    ensures { result ≡ list_all is_number attrs.now }
+{
+    attrs.iter().all(is_number)
+}
+
+/// The session of a job that can be run: there is no other, its edits are puts, and each attribute of
+/// the start sort is a number.
+fn built_session(accepted: &Accepted) -> Option<&Script>
+    ensures { MatchOption result ((script : base.Script) → ¬ IsBuiltSession (grammar_of accepted.now.grammar) accepted.now.sessions script) (λ script. IsBuiltSession (grammar_of accepted.now.grammar) accepted.now.sessions script.now) }
 {
     let [script] = accepted.sessions.as_slice() else {
         return None;
     };
-    if accepted.grammar.is_plain() && are_puts(script.edits.as_slice()) {
+    let grammar = &accepted.grammar;
+    let attrs = attrs_of_sort(grammar.sorts.as_slice(), grammar.start);
+    if are_numbers(attrs) && are_puts(script.edits.as_slice()) {
         Some(script)
     } else {
         None
     }
 }
 
-/// The text of a run of a session.
+/// The text of a run of a session of puts over a store of its own.
+fn played(
+    alloc: Global,
+    functions: &Functions,
+    rows: u32,
+    depth: u32,
+    script: &Script,
+) -> Result<Vec<u8>, Memory>
+    requires some { 1 ≤ rows }
+    requires limit { rows ≤ ROW_LIMIT }
+    requires order { HasOrder (grammar_of functions.now.plan.grammar) functions.now.plan.parts }
+    requires opening { IsStartTree functions.now (tree script.now.tree) }
+    requires puts { IsTrue (are_fitting_puts functions.now.plan.grammar.prods script.now.edits) }
+    ensures { IfOk result (λ text. IsSessionText functions.now rows depth script.now text.items) }
+{
+    runs_out_of_rows();
+    let meaning = VisitMeaning::new(alloc, functions.plan())?;
+    let mut store = PlainStore::with_meaning(alloc, meaning, rows)?;
+    let _made = store.published();
+    let out = play(alloc, &mut store, functions, depth, script)?;
+    session_text(alloc, &out)
+}
+
+/// The text of a run of a session by the plan of its grammar.
+///
+/// # Errors
+///
+/// That the grammar is not ordered, and want of memory.
 fn session_run(
     alloc: Global,
+    command: &Command,
     accepted: &Accepted,
     script: &Script,
-    depth: u32,
-) -> Result<Vec<u8>, Memory>
-    requires { IsPlainSession (grammar_of accepted.now.grammar) accepted.now.sessions script.now }
-    ensures { IfOk result (λ text. (bytes : List ℕ) → IsAccepted bytes (grammar_of accepted.now.grammar) (map session accepted.now.sessions) → IsRunOf bytes depth text.items) }
+) -> Result<Vec<u8>, Failure>
+    requires within { IsWithinRanges command.now }
+    requires session { IsBuiltSession (grammar_of accepted.now.grammar) accepted.now.sessions script.now }
+    ensures text { IfOk result (λ text. (bytes : List ℕ) → IsAccepted bytes (grammar_of accepted.now.grammar) (map session accepted.now.sessions) → IsRunOf bytes command.now.rows command.now.depth text.items) }
+    ensures fault { IfErr result (IsUnordered (grammar_of accepted.now.grammar)) }
 {
-    let grammar = &accepted.grammar;
-    let replies = replies(alloc, grammar, script, depth)?;
-    let attrs = attrs_of_sort(grammar.sorts.as_slice(), grammar.start);
-    session_text(alloc, attrs, &replies)
+    let plan = plan_of(alloc, &accepted.grammar)?;
+    let functions = Functions::new(alloc, plan)?;
+    Ok(played(alloc, &functions, command.rows, command.depth, script)?)
 }
 
 /// The text of a run of a job.
 ///
 /// # Errors
 ///
-/// The first fault of the job, then that there are too many rows, then that the job is not built.
+/// The first fault of the job, then that there are too many rows, that the job is not built, and that
+/// its grammar is not ordered.
 pub fn run_text(alloc: Global, command: &Command, bytes: &[u8]) -> Result<Vec<u8>, Failure>
-    requires { command.now.verb ≡ v.Run }
-    ensures text { IfOk result (λ text. IsRunOf bytes.now command.now.depth text.items) }
+    requires run { command.now.verb ≡ v.Run }
+    requires within { IsWithinRanges command.now }
+    ensures text { IfOk result (λ text. IsRunOf bytes.now command.now.rows command.now.depth text.items) }
     ensures cause { IfErr result (IsCause command.now bytes.now) }
 {
     one_job();
@@ -90,17 +144,18 @@ pub fn run_text(alloc: Global, command: &Command, bytes: &[u8]) -> Result<Vec<u8
     if are_rows_too_many(command.rows, accepted.sessions.len()) {
         return Err(Failure::TooManyRows);
     }
-    let Some(script) = plain_session(&accepted) else {
+    let Some(script) = built_session(&accepted) else {
         return Err(Failure::NotBuilt);
     };
-    Ok(session_run(alloc, &accepted, script, command.depth)?)
+    session_run(alloc, command, &accepted, script)
 }
 
-/// The text of a run is fixed by the bytes of the job and the most nodes on a path: the bytes denote
-/// one job, and its session has one list of replies.
+/// The text of a run where no reply is `full` is fixed by the bytes of the job and the most nodes on a
+/// path, whatever the rows: the bytes denote one job, and its session has one list of replies.
 pub fn one_text()
-    ensures { (bytes text other : List ℕ) (depth : ℕ) → IsRunOf bytes depth text → IsRunOf bytes depth other → text ≡ other }
+    ensures one { (bytes text other : List ℕ) (depth : ℕ) → IsRunWithRoom bytes depth text → IsRunWithRoom bytes depth other → text ≡ other }
+    ensures room { (bytes text : List ℕ) (rows depth : ℕ) (run : IsRunOf bytes rows depth text) → HasRoom run.replies → IsRunWithRoom bytes depth text }
 {
     one_job();
-    one_session();
+    attribution_is_unique();
 }

@@ -8,7 +8,7 @@ ghost use Rattle.lrc_failures.specs.Lines.{status_of, line_of, IsStatus};
 ghost use Rattle.lrc_failures.specs.Gains.{GainsLine};
 ghost use Rattle.lrc_failures.specs.declared.failure.Failure.{Failure};
 ghost use Rattle.lrc_failures.specs.declared.failure.Failure.TheVariants as f;
-ghost use Rattle.lrc_cli.specs.Headline.{IsOutputOf, IsRunOf};
+ghost use Rattle.lrc_cli.specs.Headline.{HasRoom, IsOutputOf, IsRunOf, IsRunWithRoom};
 ghost use Rattle.lrc_cli.specs.Causes.{IsBuiltVerb, IsUnbuiltVerb, ReadsNothing, IsCause};
 ghost use Rattle.lrc_cli.specs.Status.{Done, Unwritten, Refused, HoldsJob, is_refusal, input_limit};
 
@@ -60,8 +60,9 @@ fn is_built(verb: Verb) -> bool
 ///
 /// The first fault of the job.
 fn output(alloc: Global, command: &Command, input: &[u8]) -> Result<Bytes, Failure>
-    requires { IsBuiltVerb command.now.verb }
-    ensures output { IfOk result (IsOutputOf command.now.verb command.now.depth input.now) }
+    requires built { IsBuiltVerb command.now.verb }
+    requires within { IsWithinRanges command.now }
+    ensures output { IfOk result (IsOutputOf command.now.verb command.now.rows command.now.depth input.now) }
     ensures cause { IfErr result (IsCause command.now input.now) }
 {
     match command.verb {
@@ -112,7 +113,8 @@ fn answered<S: Source, O: Sink>(
 /// prints the line of the first fault. Answers the status with which the program ends.
 ///
 /// The session's opening and each of its edits are answered by the root's synthesised attributes in
-/// an attribution of its tree as it is then, or by the refusal that the editing rules name.
+/// the attribution of its tree as it is then, or by the refusal that the editing rules name; `full` only
+/// once its rows are fewer than the cells that it has demanded.
 pub fn lrc<R: Threads + Sync, S: Source, O: Sink, E: Sink>(
     rt: &R,
     alloc: Global,
@@ -122,7 +124,8 @@ pub fn lrc<R: Threads + Sync, S: Source, O: Sink, E: Sink>(
     err: &mut E,
 ) -> u8
     ensures done { result ≡ 0 → Done words.now (S.left source.old) (S.left source.new) (O.held out.old) (O.held out.new) }
-    ensures one_text { (bytes text other : List ℕ) (depth : ℕ) → IsRunOf bytes depth text → IsRunOf bytes depth other → text ≡ other }
+    ensures one_text { (bytes text other : List ℕ) (depth : ℕ) → IsRunWithRoom bytes depth text → IsRunWithRoom bytes depth other → text ≡ other }
+    ensures room { (bytes text : List ℕ) (rows depth : ℕ) (run : IsRunOf bytes rows depth text) → HasRoom run.replies → IsRunWithRoom bytes depth text }
     ensures usage { result ≡ 2 → AreRefused (texts words.now) ⊎ (verb_of (texts words.now) ≡ None) }
     ensures unread { result ≡ 2 → Keeps (S.left source.old) (S.left source.new) }
     ensures command { result ≢ 2 → result ≢ 7 → (command : Command) × Says (texts words.now) command }

@@ -61,6 +61,30 @@ prod L: X () { c = a; d = b; }
 start R;
 ";
 
+/// One tree attaches itself, and so has no attribution; the other has one.
+pub const ENDLESS: &[u8] = b"lrc 1
+sort S { syn v: Int; }
+prod Loop: S () { attach a: S = Loop(); v = a.v; }
+prod One: S () { v = 1; }
+start S;
+";
+
+/// Numerals and their sums.
+pub const NUMERALS: &[u8] = b"lrc 1
+sort N { syn h: Int; }
+prod Z: N () { h = 0; }
+prod S: N (n: N) { h = n.h + 1; }
+prod P: N (a: N, b: N) { h = a.h + b.h; }
+start N;
+";
+
+/// A tree whose one attribute is a tree.
+pub const TREES: &[u8] = b"lrc 1
+sort T { syn t: T; }
+prod L: T () { t = L(); }
+start T;
+";
+
 /// A job of one production, whose number is its value.
 pub const SMALL_JOB: &[u8] =
     b"lrc 1 sort A { syn s: Int; } prod P: A (n: Int) { s = n; } start A; session on P(1) { }";

@@ -1,5 +1,9 @@
 use Rattle.lrc_cli.proofs.RunLemmas.{one_text_of}
+use Rattle.lrc_cli.proofs.RoomLemmas.{with_room}
 use Rattle.lrc_cli.proofs.run.one_text.Goals as goal
 
-pub returns : goal.returns
-returns c = one_text_of c.one_job.ensures c.one_session.ensures
+pub returns-clause-one : goal.returns-clause-one
+returns-clause-one c = one_text_of c.one_job.ensures c.attribution_is_unique.ensures
+
+pub returns-clause-room : goal.returns-clause-room
+returns-clause-room c = with_room

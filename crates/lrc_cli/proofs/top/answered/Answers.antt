@@ -30,13 +30,13 @@ returns-in_err-text-clause-refused g c =
 pub returns-in_err-put_all-clause-part : goal.returns-in_err-put_all-clause-part
 returns-in_err-put_all-clause-part g c = λ e.
     unwritten c.args.words.now _ _ _ _ c.in_ok-command.command c.in_ok-input.input c.in_ok-text.text c.in_ok-command.ensures.says c.in_ok-input.ensures.taken
-    (subst (λ (bytes : List ℕ). IsOutputOf c.in_ok-command.command.verb c.in_ok-command.command.depth bytes c.in_ok-text.text) c.as_slice.ensures c.in_ok-text.ensures.output)
+    (subst (λ (bytes : List ℕ). IsOutputOf c.in_ok-command.command.verb c.in_ok-command.command.rows c.in_ok-command.command.depth bytes c.in_ok-text.text) c.as_slice.ensures c.in_ok-text.ensures.output)
     (rw c.as_slice-2.ensures at c.in_err-put_all.ensures.part)
 
 pub returns-clause-done : goal.returns-clause-done
 returns-clause-done g c =
     done c.args.words.now _ _ _ _ c.in_ok-command.command c.in_ok-input.input c.in_ok-text.text c.in_ok-command.ensures.says c.in_ok-input.ensures.taken
-    (subst (λ (bytes : List ℕ). IsOutputOf c.in_ok-command.command.verb c.in_ok-command.command.depth bytes c.in_ok-text.text) c.as_slice.ensures c.in_ok-text.ensures.output)
+    (subst (λ (bytes : List ℕ). IsOutputOf c.in_ok-command.command.verb c.in_ok-command.command.rows c.in_ok-command.command.depth bytes c.in_ok-text.text) c.as_slice.ensures c.in_ok-text.ensures.output)
     (rw c.as_slice-2.ensures at c.in_ok-put_all.ensures.all)
 
 pub returns-in_err-command-clause-taken : goal.returns-in_err-command-clause-taken
