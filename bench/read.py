@@ -4,8 +4,8 @@
     bench/read.py [PROGRAM]
 
 Prints microseconds of processor time a node of both, their ratio, and the peak memory of the larger, and then the
-figures of notation.py. It measures and is no test. A node is a production's: a sum of n leaves has
-2n - 1.
+figures of notation.py. Each run has rows enough for the larger. It measures and is no test. A node is a production's: a
+sum of n leaves has 2n - 1.
 """
 import os
 import resource
@@ -38,7 +38,7 @@ def seconds(program, text, times):
         with tempfile.TemporaryFile() as job, tempfile.TemporaryFile() as out:
             job.write(text)
             job.seek(0)
-            child = subprocess.Popen([program, "run"], stdin=job, stdout=out)
+            child = subprocess.Popen([program, "run", "--rows", "8388608"], stdin=job, stdout=out)
             _, status, used = os.wait4(child.pid, 0)
             assert status == 0, status
             out.seek(0)

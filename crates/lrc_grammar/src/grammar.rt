@@ -4,7 +4,6 @@ ghost use Rattle.lrc_meaning.specs.Limits.{IsWithinLimits};
 ghost use Rattle.lrc_meaning.specs.Signature.{signature_of};
 
 use crate::copies::{copied_productions, copied_signatures, copied_sorts};
-use crate::plain::{are_productions_plain, are_sorts_plain};
 use crate::signature::signatures_of;
 use lrc_base::{List, Memory, Production, Signature, Sort};
 use std::alloc::Global;
@@ -25,7 +24,6 @@ pub struct Grammar {
 }
 
 impl Grammar {
-    ghost use Rattle.lrc_meaning.specs.Plain.{is_plain};
     ghost use Rattle.lrc_grammar.specs.Grammar.{grammar_of};
 
     /// The grammar of these parts, with the signature of each production.
@@ -77,13 +75,5 @@ impl Grammar {
             start: self.start,
             signatures,
         })
-    }
-
-    /// Whether the grammar is plain: each attribute is a synthesised number, there are no locals and
-    /// nonterminal attributes, and each expression is a sum.
-    pub fn is_plain(&self) -> bool
-        ensures { result ≡ is_plain (grammar_of self.now) }
-    {
-        are_sorts_plain(self.sorts.as_slice()) && are_productions_plain(self.prods.as_slice())
     }
 }

@@ -6,7 +6,6 @@ mod copies;
 mod fitting;
 mod grammar;
 mod kinds;
-mod plain;
 mod signature;
 
 pub use attributes::attrs_of_sort;

@@ -6,6 +6,5 @@ pub mod Editing
 pub mod Text
 pub mod Naming
 pub mod Signature
-pub mod Plain
 pub mod Limits
 pub mod Examples

@@ -6,7 +6,7 @@ use Rattle.lrc_base.specs.declared.job.Edit.{Edit}
 use Rattle.lrc_meaning.specs.Grammar.{Grammar}
 use Rattle.lrc_meaning.specs.Editing.{Reply, unopened, Change, change, all_unopened}
 use Rattle.lrc_run.specs.declared.reply.Line.{Line}
-use Rattle.lrc_run.specs.Lines.{IsLine, AreLines}
+use Rattle.lrc_run.specs.Lines.{IsLine, AreLines, HasOneMore}
 
 -- two facts of an answer
 pub both_ok : {A E : Type 0} (r : Result A E) (P Q R : A → Type 0) → ((x : A) → P x → Q x → R x) → IfOk r P → IfOk r Q → IfOk r R
@@ -28,10 +28,15 @@ pub changes_more : (edits : List Edit) (i : ℕ) (e : Edit) → i < length edits
 changes_more edits i e h is =
     ap (map change) (take_more edits i e h ∙ ap (λ (x : Edit). take i edits ++ x ∷ []) (sym is)) ∙ map-append change (take i edits) (e ∷ [])
 
+-- the line of one reply
+pub one_line : (g : Grammar) (reply : Reply) (before after : List Line) → before ≡ [] → HasOneMore g reply before after → AreLines g (reply ∷ []) after
+one_line g reply before after none more = subst (AreLines g (reply ∷ [])) (sym (more.all ∙ ap (λ (ls : List Line). ls ++ more.line ∷ []) none)) (more.is_line, tt)
+
 -- one more edit is unopened
-pub one_unopened_more : (g : Grammar) (reply : Reply) (edits : List Edit) (i : ℕ) (lines : List Line) (line : Line) (e : Edit) → i < length edits → e ≡ get_or edits i e →
-    AreLines g (reply ∷ all_unopened (map change (take i edits))) lines → IsLine g unopened line → AreLines g (reply ∷ all_unopened (map change (take (i + 1) edits))) (lines ++ line ∷ [])
-one_unopened_more g reply edits i lines line e h is are one =
-    subst (λ cs. AreLines g (reply ∷ cs) (lines ++ line ∷ []))
+pub one_unopened_more : (g : Grammar) (reply : Reply) (edits : List Edit) (i : ℕ) (lines after : List Line) (e : Edit) → i < length edits → e ≡ get_or edits i e →
+    AreLines g (reply ∷ all_unopened (map change (take i edits))) lines → HasOneMore g unopened lines after → AreLines g (reply ∷ all_unopened (map change (take (i + 1) edits))) after
+one_unopened_more g reply edits i lines after e h is are more =
+    subst (AreLines g (reply ∷ all_unopened (map change (take (i + 1) edits)))) (sym more.all)
+    (subst (λ cs. AreLines g (reply ∷ cs) (lines ++ more.line ∷ []))
     (sym (unopened_more (map change (take i edits)) (change e)) ∙ ap all_unopened (sym (changes_more edits i e h is)))
-    (one_line_more g (reply ∷ all_unopened (map change (take i edits))) lines unopened line are one)
+    (one_line_more g (reply ∷ all_unopened (map change (take i edits))) lines unopened more.line are more.is_line))

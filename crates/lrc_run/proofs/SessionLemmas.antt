@@ -1,5 +1,6 @@
 -- A whole session: its opening, and its edits one after another.
-use Rattle.std.proofs.Common.{◌≡◌, ℕ, ◌+◌, ◌-◌, ◌<◌, ◌^◌, List, [], ◌∷◌, ◌++◌, map, length, take, get_or, Some, None, refl, sym, ap, subst}
+use Rattle.std.proofs.Common.{◌≡◌, ℕ, ◌+◌, ◌-◌, ◌<◌, ◌^◌, List, [], ◌∷◌, ◌++◌, map, length, take, get_or, Some, None, refl, sym, ap, ◌∙◌, subst, append_assoc}
+use Rattle.std.proofs.lemmas.List.{append-nil}
 use Rattle.std.proofs.lemmas.Bool.{false≢true}
 use Rattle.lrc_base.specs.declared.job.Edit.{Edit}
 use Rattle.lrc_base.specs.declared.job.Script.{Script}
@@ -23,7 +24,7 @@ use Rattle.lrc_run.specs.Lines.{IsLine, AreLines}
 use Rattle.lrc_run.specs.Values.{HasCountsOf}
 use Rattle.lrc_run.specs.Counts.{counts_of, IsCounted}
 use Rattle.lrc_run.specs.Playing.{IsUnused, IsUncounted, RunsOut, IsLast, Plays}
-use Rattle.lrc_run.specs.Editing.{GainsSome, IsTallied, IsEdited, AreEdited}
+use Rattle.lrc_run.specs.Editing.{GainsSome, IsTallied, IsEdited, AreEdited, IsPlayed}
 use Rattle.lrc_run.proofs.RunLemmas.{run_weaker, one_more}
 use Rattle.lrc_run.proofs.HoldsLemmas.{holds_none, holds_read, holds_more, out_later, runs_out}
 use Rattle.lrc_run.proofs.LineLemmas.{one_line_more, changes_more}
@@ -34,30 +35,30 @@ module _ (functions : Functions) where
   -- ---- edits one after another
 
   -- no edit was made
-  pub none_edited : (s : Standing) (limit : ℕ) (before : Tree) (own : List Tree) (session : Session) (opening : Line) → IsOpen functions s session before own → AreEdited functions s s limit before [] session opening (opening ∷ [])
-  none_edited s limit before own session opening opened = record {
+  pub none_edited : (s : Standing) (limit : ℕ) (before : Tree) (own : List Tree) (session : Session) (lines : List Line) → IsOpen functions s session before own → AreEdited functions s s limit before [] session lines lines
+  none_edited s limit before own session lines opened = record {
     replies = [];
     after = before;
     own = own;
     is_open = opened;
-    rest = [];
-    all = refl;
+    own_lines = [];
+    all = sym (append-nil lines);
     are_lines = tt;
     runs = λ order earlier h. record { attempts = earlier; run = done earlier before; holds = h; counted = λ _. tt; tallied = λ tallied _. tallied };
   }
 
   -- one more edit was made
-  edited_more : (s t u : Standing) (limit : ℕ) (before : Tree) (cs : List Change) (c : Change) (session after : Session) (opening : Line) (lines : List Line) (line : Line) →
-      (a : AreEdited functions s t limit before cs session opening lines) → GainsSome t u → IsEdited functions t u limit a.after c after line →
-      AreEdited functions s u limit before (cs ++ c ∷ []) after opening (lines ++ line ∷ [])
-  edited_more s t u limit before cs c session after opening lines line a (cells, gains) e = record {
+  edited_more : (s t u : Standing) (limit : ℕ) (before : Tree) (cs : List Change) (c : Change) (session after : Session) (first lines : List Line) (line : Line) →
+      (a : AreEdited functions s t limit before cs session first lines) → GainsSome t u → IsEdited functions t u limit a.after c after line →
+      AreEdited functions s u limit before (cs ++ c ∷ []) after first (lines ++ line ∷ [])
+  edited_more s t u limit before cs c session after first lines line a (cells, gains) e = record {
     replies = a.replies ++ e.reply ∷ [];
     after = e.after;
     own = e.own;
     is_open = e.is_open;
-    rest = a.rest ++ line ∷ [];
-    all = ap (λ (ls : List Line). ls ++ line ∷ []) a.all;
-    are_lines = one_line_more (grammar functions) a.replies a.rest e.reply line a.are_lines e.is_line;
+    own_lines = a.own_lines ++ line ∷ [];
+    all = ap (λ (ls : List Line). ls ++ line ∷ []) a.all ∙ append_assoc first a.own_lines (line ∷ []);
+    are_lines = one_line_more (grammar functions) a.replies a.own_lines e.reply line a.are_lines e.is_line;
     runs = λ order earlier h.
         let r = a.runs order earlier h in
         let step = e.steps order r.attempts r.holds in
@@ -71,39 +72,37 @@ module _ (functions : Functions) where
               step.step;
           holds = step.holds;
           counted = λ tallied.
-              counted_more (grammar functions) (sorts functions) limit text_of (RunsOut functions limit t) earlier before cs a.replies a.after r.attempts c e.reply a.rest line r.run a.are_lines (r.counted tallied)
+              counted_more (grammar functions) (sorts functions) limit text_of (RunsOut functions limit t) earlier before cs a.replies a.after r.attempts c e.reply a.own_lines line r.run a.are_lines (r.counted tallied)
               (λ each. step.counted (r.tallied tallied each));
           tallied = λ tallied each. let both = all_more a.replies e.reply each in step.tallied (r.tallied tallied both.0) both.1;
         };
   }
 
-  pub one_edit_more : (s t u : Standing) (limit depth : ℕ) (before : Tree) (edits : List Edit) (i : ℕ) (edit : Edit) (session after : Session) (opening : Line) (all lines : List Line) (line : Line) →
-      i < length edits → edit ≡ get_or edits i edit → all ≡ lines ++ line ∷ [] → depth ≡ limit → (a : AreEdited functions s t limit before (map change (take i edits)) session opening lines) → GainsSome t u →
-      IsEdited functions t u depth a.after (change edit) after line → AreEdited functions s u limit before (map change (take (i + 1) edits)) after opening all
-  one_edit_more s t u limit depth before edits i edit session after opening all lines line h is pushed same a gains e =
-      subst (λ cs. AreEdited functions s u limit before cs after opening all) (sym (changes_more edits i edit h is))
-      (subst (λ ls. AreEdited functions s u limit before (map change (take i edits) ++ change edit ∷ []) after opening ls) (sym pushed)
-      (edited_more s t u limit before (map change (take i edits)) (change edit) session after opening lines line a gains
+  pub one_edit_more : (s t u : Standing) (limit depth : ℕ) (before : Tree) (edits : List Edit) (i : ℕ) (edit : Edit) (session after : Session) (first all lines : List Line) (line : Line) →
+      i < length edits → edit ≡ get_or edits i edit → all ≡ lines ++ line ∷ [] → depth ≡ limit → (a : AreEdited functions s t limit before (map change (take i edits)) session first lines) → GainsSome t u →
+      IsEdited functions t u depth a.after (change edit) after line → AreEdited functions s u limit before (map change (take (i + 1) edits)) after first all
+  one_edit_more s t u limit depth before edits i edit session after first all lines line h is pushed same a gains e =
+      subst (λ cs. AreEdited functions s u limit before cs after first all) (sym (changes_more edits i edit h is))
+      (subst (λ ls. AreEdited functions s u limit before (map change (take i edits) ++ change edit ∷ []) after first ls) (sym pushed)
+      (edited_more s t u limit before (map change (take i edits)) (change edit) session after first lines line a gains
       (subst (λ n. IsEdited functions t u n a.after (change edit) after line) same e)))
 
   -- ---- the opening
 
   module _ (s t : Standing) (limit : ℕ) (script : Script) (unused : IsUnused s) (gains : Gains s t (demands functions limit (tree script.tree))) where
-    -- what is known of the opening's answer besides
-    pub record IsOpening (v : Standing) (session : Session) (line : Line) : Type 0 where
+    -- what is known of the opening's counts
+    pub record IsOpening (session : Session) : Type 0 where
       pub whole : IsWhole (grammar functions) (sorts functions) s.memo → IsWhole (grammar functions) (sorts functions) t.memo
       pub counted : IsWhole (grammar functions) (sorts functions) s.memo → Counted s t (IsCalled functions limit (tree script.tree))
       pub runs : session.runs ≡ t.missed - s.missed
-      pub reads : Reads t v
-      pub counts : HasCountsOf v session line
 
-    pub played : (v u : Standing) (session after : Session) (opening : Line) (lines : List Line) (handle : Handle) (o : Opens functions t limit (tree script.tree) session) → IsOpening v session opening →
-        IsLine (grammar functions) (values o.values) opening → HasOrder (grammar functions) functions.plan.parts →
-        AreEdited functions v u session.depth (tree script.tree) (map change script.edits) after opening lines → handle ≡ after.tree → Plays functions limit s u script (record { lines = lines; last = Some handle })
-    played v u session after opening lines handle o is is_line order edited same =
+    pub played : (u : Standing) (session : Session) (out : Out) (o : Opens functions t limit (tree script.tree) session) → IsOpening session →
+        HasOrder (grammar functions) functions.plan.parts → IsPlayed functions t u session (tree script.tree) o.values (map change script.edits) out → Plays functions limit s u script out
+    played u session out o is order p =
         let attempt = tried (tree script.tree) (values o.values) in
-        let a = subst (λ n. AreEdited functions v u n (tree script.tree) (map change script.edits) after opening lines) o.depth edited in
-        let held = holds_read functions limit t v (attempt ∷ []) (holds_more functions limit s t [] attempt (holds_none functions limit s unused) gains (λ _. o.seen)) is.reads in
+        let v = p.middle in
+        let a = subst (λ n. AreEdited functions v u n (tree script.tree) (map change script.edits) p.after (p.opening ∷ []) out.lines) o.depth p.edited in
+        let held = holds_read functions limit t v (attempt ∷ []) (holds_more functions limit s t [] attempt (holds_none functions limit s unused) gains (λ _. o.seen)) p.reads in
         let r = a.runs order (attempt ∷ []) held in
         let answered : IsUncounted s → IsAnswered functions limit s t [] attempt =
         λ fresh. let none = tallied_none functions limit s unused fresh in record {
@@ -112,21 +111,21 @@ module _ (functions : Functions) where
           gains = gains;
           seen = o.seen;
           counted = is.counted none.whole;
-          small = subst (λ (made : List CellTree). length made < 2 ^ 32) is.reads.stays.made is.counts.small;
+          small = subst (λ (made : List CellTree). length made < 2 ^ 32) p.reads.stays.made p.counts.small;
         } in
         let tallied : IsUncounted s → IsTallied functions limit v (attempt ∷ []) =
-        λ fresh. tallied_read functions limit t v (attempt ∷ []) (tallied_then functions limit s t [] attempt (answered fresh)) is.reads in
+        λ fresh. tallied_read functions limit t v (attempt ∷ []) (tallied_then functions limit s t [] attempt (answered fresh)) p.reads in
         record {
           replies = values o.values ∷ a.replies;
           last = Some a.after;
           attempts = r.attempts;
           runs = opens o.values a.replies a.after r.attempts (gives o.values (subst (λ n. Attributes (grammar functions) n (tree script.tree) o.values) o.depth (o.is_open.attributes order))) r.run;
           holds = r.holds;
-          lines = subst (AreLines (grammar functions) (values o.values ∷ a.replies)) (sym a.all) (is_line, a.are_lines);
-          is_last = subst (λ (x : Handle). IsLast u (Some a.after) (Some x)) (sym same) a.is_open.tree;
+          lines = subst (AreLines (grammar functions) (values o.values ∷ a.replies)) (sym a.all) (p.is_line, a.are_lines);
+          is_last = subst (IsLast u (Some a.after)) (sym p.last) a.is_open.tree;
           counted = λ fresh.
               subst (λ (ls : List Line). IsCounted (grammar functions) (sorts functions) limit (tree script.tree) (map change script.edits) (values o.values ∷ a.replies) (map counts_of ls)) (sym a.all)
-              (line_counted functions limit s t [] attempt (answered fresh) v session opening is.reads is.counts is.runs, r.counted (tallied fresh));
+              (line_counted functions limit s t [] attempt (answered fresh) v session p.opening p.reads p.counts is.runs, r.counted (tallied fresh));
           tallies = λ fresh each. (r.tallied (tallied fresh) each).tallies;
         }
 

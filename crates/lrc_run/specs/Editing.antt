@@ -1,5 +1,5 @@
 -- What the edits of an open session are answered over a store, one after another.
-use Rattle.std.specs.Prelude.{ℕ, ◌≡◌, not, IsTrue, List, ◌∷◌, map, ⊤}
+use Rattle.std.specs.Prelude.{ℕ, ◌≡◌, not, IsTrue, List, [], ◌∷◌, ◌++◌, Some, map, ⊤}
 use Rattle.lrc_meaning.specs.Tree.{Tree}
 use Rattle.lrc_meaning.specs.Grammar.{Grammar}
 use Rattle.lrc_meaning.specs.Editing.{Change, Reply, values, bad_path, wrong_sort, too_deep, full, unopened, shown, forgot, Attempt, asked, EditStep, EditRun}
@@ -8,13 +8,15 @@ use Rattle.lrc_order_meaning.specs.declared.Partition.{Partition}
 use Rattle.lrc_order_meaning.specs.Ordered.{HasOrder}
 use Rattle.lrc_store.specs.Cells.{CellTree}
 use Rattle.lrc_store.specs.Standing.{Standing, IsSound}
-use Rattle.lrc_store.specs.Words.{Gains}
+use Rattle.lrc_store.specs.Words.{Reads, Gains}
 use Rattle.lrc_bodies.specs.Counting.{IsWhole}
 use Rattle.lrc_functions.specs.declared.functions.Functions.{Functions}
 use Rattle.lrc_session.specs.declared.session.Session.{Session}
 use Rattle.lrc_session.specs.Sessions.{grammar, sorts, IsOpen}
 use Rattle.lrc_run.specs.declared.reply.Line.{Line}
+use Rattle.lrc_run.specs.declared.reply.Out.{Out}
 use Rattle.lrc_run.specs.Lines.{IsLine, AreLines}
+use Rattle.lrc_run.specs.Values.{HasCountsOf}
 use Rattle.lrc_run.specs.Counts.{Counts, counts_of, stops_counts, are_all_counted, HasCounts, Tallies, AreCounted}
 use Rattle.lrc_run.specs.Playing.{RunsOut, Holds}
 
@@ -72,13 +74,25 @@ module _ (functions : Functions) (s t : Standing) (limit : ℕ) where
     pub is_line : IsLine (grammar functions) reply line
     pub steps : HasOrder (grammar functions) functions.plan.parts → (earlier : List Attempt) → Holds functions limit s earlier → Steps before c reply after line earlier
 
-  -- Edits were made in a session with this tree, and answered with the lines behind that of the opening.
-  pub record AreEdited (before : Tree) (cs : List Change) (session : Session) (opening : Line) (lines : List Line) : Type 0 where
+  -- Edits were made in a session with this tree, and their lines were appended.
+  pub record AreEdited (before : Tree) (cs : List Change) (session : Session) (earlier_lines lines : List Line) : Type 0 where
     pub replies : List Reply
     pub after : Tree
     pub own : List Tree
     pub is_open : IsOpen functions t session after own
-    pub rest : List Line
-    pub all : lines ≡ opening ∷ rest
-    pub are_lines : AreLines (grammar functions) replies rest
-    pub runs : HasOrder (grammar functions) functions.plan.parts → (earlier : List Attempt) → Holds functions limit s earlier → Runs before cs replies after rest earlier
+    pub own_lines : List Line
+    pub all : lines ≡ earlier_lines ++ own_lines
+    pub are_lines : AreLines (grammar functions) replies own_lines
+    pub runs : HasOrder (grammar functions) functions.plan.parts → (earlier : List Attempt) → Holds functions limit s earlier → Runs before cs replies after own_lines earlier
+
+module _ (functions : Functions) (s t : Standing) where
+  -- A session with this tree and these values was answered the line of the values, and then those of the edits.
+  pub record IsPlayed (session : Session) (before : Tree) (vs : List Tree) (cs : List Change) (out : Out) : Type 0 where
+    pub middle : Standing
+    pub reads : Reads s middle
+    pub opening : Line
+    pub is_line : IsLine (grammar functions) (values vs) opening
+    pub counts : HasCountsOf middle session opening
+    pub after : Session
+    pub edited : AreEdited functions middle t session.depth before cs after (opening ∷ []) out.lines
+    pub last : out.last ≡ Some after.tree

@@ -1,5 +1,5 @@
 -- The lines of a session: what each edit is answered, and its text without its number.
-use Rattle.std.specs.Prelude.{ℕ, ◌≡◌, List, [], ◌∷◌, codes, ⊤}
+use Rattle.std.specs.Prelude.{ℕ, ◌≡◌, List, [], ◌∷◌, ◌++◌, codes, ⊤}
 use Rattle.lrc_meaning.specs.Grammar.{Grammar}
 use Rattle.lrc_meaning.specs.Editing.{Reply, values, bad_path, wrong_sort, too_deep, full, unopened}
 use Rattle.lrc_meaning.specs.Text.{reply_body}
@@ -29,6 +29,12 @@ AreLines g [] [] = ⊤
 AreLines g [] (line ∷ lines) = ⊥
 AreLines g (reply ∷ replies) [] = ⊥
 AreLines g (reply ∷ replies) (line ∷ lines) = IsLine g reply line × AreLines g replies lines
+
+-- the reply's line was appended
+pub record HasOneMore (g : Grammar) (reply : Reply) (before after : List Line) : Type 0 where
+  pub line : Line
+  pub is_line : IsLine g reply line
+  pub all : after ≡ before ++ line ∷ []
 
 -- the reply of this kind; the one without values
 abbrev pub reply_of : Outcome → Reply

@@ -1,15 +1,16 @@
-ghost use Rattle.std.specs.Prelude.{◌≡◌, None, List, ◌∷◌, map, IsTrue, IfOk};
+ghost use Rattle.std.specs.Prelude.{◌≡◌, ◌≢◌, None, List, ◌∷◌, map, IsTrue, IfOk};
 ghost use Rattle.lrc_meaning.specs.Tree.{Tree, tree};
 ghost use Rattle.lrc_meaning.specs.Grammar.{Grammar};
-ghost use Rattle.lrc_meaning.specs.Editing.{Reply, change, all_unopened};
+ghost use Rattle.lrc_meaning.specs.Editing.{change, all_unopened};
 ghost use Rattle.lrc_order_meaning.specs.Ordered.{HasOrder};
 ghost use Rattle.lrc_grammar.specs.Grammar.{grammar_of};
 ghost use Rattle.lrc_store.specs.Words.{Lasts};
 ghost use Rattle.lrc_bodies.specs.Bodies.{IsMeaningOf};
 ghost use Rattle.lrc_session.specs.Sessions.{IsStartTree, IsOpen};
-ghost use Rattle.lrc_run.specs.Lines.{IsLine, AreLines};
+ghost use Rattle.lrc_run.specs.Lines.{reply_of, AreLines, HasOneMore};
 ghost use Rattle.lrc_run.specs.Playing.{are_fitting_puts, IsUnused, Plays};
-ghost use Rattle.lrc_run.specs.Editing.{GainsSome, AreEdited};
+ghost use Rattle.lrc_run.specs.Editing.{GainsSome, AreEdited, IsPlayed};
+ghost use Rattle.lrc_run.specs.declared.reply.Outcome.TheVariants as o;
 
 use crate::editing::edited;
 use crate::lines::refusal;
@@ -22,41 +23,72 @@ use lrc_session::{Session, StartFault};
 use lrc_store::Store;
 use std::alloc::Global;
 
-/// What a session is answered whose opening was answered with this line and refused: no edit is opened.
-fn unopened(alloc: Global, opening: Line, edits: &[Edit]) -> Result<Out, Memory>
-    ensures lines { (g : Grammar) (reply : Reply) → IsLine g reply opening → IfOk result (λ out. AreLines g (reply ∷ all_unopened (map change edits.now)) out.lines) }
+/// Appends the line of a reply that has no values.
+fn push_refusal(alloc: Global, outcome: Outcome, lines: &mut List<Line>) -> Result<(), Memory>
+    requires { outcome ≢ o.Values }
+    ensures { (g : Grammar) → IfOk result (λ _. HasOneMore g (reply_of outcome) lines.old lines.new) }
+{
+    lines.push(refusal(alloc, outcome)?)
+}
+
+/// What a session is answered whose opening was refused: no edit is opened.
+fn unopened(alloc: Global, outcome: Outcome, edits: &[Edit]) -> Result<Out, Memory>
+    requires { outcome ≢ o.Values }
+    ensures lines { (g : Grammar) → IfOk result (λ out. AreLines g (reply_of outcome ∷ all_unopened (map change edits.now)) out.lines) }
     ensures last { IfOk result (λ out. out.last ≡ None) }
 {
     let mut lines = List::new(alloc);
-    lines.push(opening)?;
+    push_refusal(alloc, outcome, &mut lines)?;
     'edits: for _edit in edits {
-        lines.push(refusal(alloc, Outcome::Unopened)?)?;
+        push_refusal(alloc, Outcome::Unopened, &mut lines)?;
     }
     Ok(Out { lines, last: None })
 }
 
-/// The opening's line, and that of each edit of the open session.
-fn edited_all<St: Store<M = VisitMeaning>>(
+/// Appends the line of each edit of an open session.
+fn push_edited<St: Store<M = VisitMeaning>>(
     alloc: Global,
     store: &mut St,
     functions: &Functions,
     session: &mut Session,
-    opening: Line,
     edits: &[Edit],
-) -> Result<List<Line>, Memory>
+    lines: &mut List<Line>,
+) -> Result<(), Memory>
     requires meaning { IsMeaningOf functions.now (St.meaning store.old) }
     requires session { (t : Tree) × (vs : List Tree) × IsOpen functions.now (St.state store.old) session.old t vs }
     requires puts { IsTrue (are_fitting_puts functions.now.plan.grammar.prods edits.now) }
-    ensures edited { (t : Tree) (vs : List Tree) → IsOpen functions.now (St.state store.old) session.old t vs → IfOk result (λ lines. AreEdited functions.now (St.state store.old) (St.state store.new) session.old.depth t (map change edits.now) session.new opening lines) }
+    ensures edited { (t : Tree) (vs : List Tree) → IsOpen functions.now (St.state store.old) session.old t vs → IfOk result (λ _. AreEdited functions.now (St.state store.old) (St.state store.new) session.old.depth t (map change edits.now) session.new lines.old lines.new) }
+    ensures gains { GainsSome (St.state store.old) (St.state store.new) }
+    ensures same_meaning { St.meaning store.new ≡ St.meaning store.old }
+{
+    'edits: for edit in edits {
+        lines.push(edited(alloc, store, functions, session, edit)?)?;
+    }
+    Ok(())
+}
+
+/// What an open session is answered: the line of its values, and then each edit's.
+fn opened<St: Store<M = VisitMeaning>>(
+    alloc: Global,
+    store: &mut St,
+    functions: &Functions,
+    mut session: Session,
+    edits: &[Edit],
+) -> Result<Out, Memory>
+    requires meaning { IsMeaningOf functions.now (St.meaning store.old) }
+    requires session { (t : Tree) × (vs : List Tree) × IsOpen functions.now (St.state store.old) session t vs }
+    requires puts { IsTrue (are_fitting_puts functions.now.plan.grammar.prods edits.now) }
+    ensures played { (t : Tree) (vs : List Tree) → IsOpen functions.now (St.state store.old) session t vs → IfOk result (λ out. IsPlayed functions.now (St.state store.old) (St.state store.new) session t vs (map change edits.now) out) }
     ensures gains { GainsSome (St.state store.old) (St.state store.new) }
     ensures same_meaning { St.meaning store.new ≡ St.meaning store.old }
 {
     let mut lines = List::new(alloc);
-    lines.push(opening)?;
-    'edits: for edit in edits {
-        lines.push(edited(alloc, store, functions, session, edit)?)?;
-    }
-    Ok(lines)
+    lines.push(values_line(alloc, store, functions, &session)?)?;
+    push_edited(alloc, store, functions, &mut session, edits, &mut lines)?;
+    Ok(Out {
+        lines,
+        last: Some(session.tree()),
+    })
 }
 
 /// Plays a session of puts over a store that nothing was put into: each edit's line, and the last tree.
@@ -81,16 +113,9 @@ pub fn play<St: Store<M = VisitMeaning>>(
 {
     let edits = script.edits.as_slice();
     match Session::start(alloc, store, functions, depth, &script.tree) {
-        Ok(mut session) => {
-            let opening = values_line(alloc, store, functions, &session)?;
-            let lines = edited_all(alloc, store, functions, &mut session, opening, edits)?;
-            Ok(Out {
-                lines,
-                last: Some(session.tree()),
-            })
-        }
-        Err(StartFault::TooDeep) => unopened(alloc, refusal(alloc, Outcome::TooDeep)?, edits),
-        Err(StartFault::Full) => unopened(alloc, refusal(alloc, Outcome::Full)?, edits),
+        Ok(session) => opened(alloc, store, functions, session, edits),
+        Err(StartFault::TooDeep) => unopened(alloc, Outcome::TooDeep, edits),
+        Err(StartFault::Full) => unopened(alloc, Outcome::Full, edits),
         Err(StartFault::Memory) => Err(AllocError),
     }
 }

@@ -1,2 +1,4 @@
 pub mod TextLemmas
+pub mod StyleLemmas
 pub mod StepLemmas
+pub mod PatternLemmas

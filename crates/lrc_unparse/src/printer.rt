@@ -14,12 +14,19 @@ use std::alloc::Global;
 /// A part of a text that is still to be printed.
 #[derive(Debug, Clone, Copy, PartialEq, Eq)]
 pub(crate) enum Part {
-    /// A value.
-    Value(Handle),
+    /// A tree.
+    Tree(Handle),
     /// The words of a name.
     Words(Handle),
     /// Children of a node and the closing bracket; whether the first of them is the node's first.
     Kids(Handle, bool),
+    /// The pieces of a production's pattern from the one of this number on, and the list of the
+    /// children of the node.
+    Pieces {
+        production: u32,
+        next: usize,
+        kids: Handle,
+    },
 }
 
 /// A text in the making: its bytes so far, and the parts that are still to be printed, of which the
@@ -32,12 +39,12 @@ pub(crate) struct Printer {
     pub pending: List<Part>,
 }
 
-/// A printer of the value.
-pub(crate) fn printer_of(alloc: Global, value: Handle) -> Result<Printer, Memory>
-    ensures { IfOk result (λ p. (p.text.items ≡ []) × (p.pending ≡ a_part.Value value ∷ [])) }
+/// A printer of the tree.
+pub(crate) fn printer_of(alloc: Global, tree: Handle) -> Result<Printer, Memory>
+    ensures { IfOk result (λ p. (p.text.items ≡ []) × (p.pending ≡ a_part.Tree tree ∷ [])) }
 {
     let mut pending = List::new(alloc);
-    pending.push(Part::Value(value))?;
+    pending.push(Part::Tree(tree))?;
     Ok(Printer {
         text: Vec::new(alloc),
         pending,

@@ -2,7 +2,7 @@ use Rattle.std.proofs.Common.{IsTrue, sym, ap, subst}
 use Rattle.std.proofs.lemmas.Result.{IfOk-weaker}
 use Rattle.lrc_meaning.specs.Tree.{tree, replaced}
 use Rattle.lrc_meaning.specs.Editing.{change}
-use Rattle.lrc_session.specs.Sessions.{grammar}
+use Rattle.lrc_session.specs.Sessions.{grammar, demands}
 use Rattle.lrc_run.specs.Lines.{IsLine, reply_of}
 use Rattle.lrc_run.specs.Playing.{is_fitting_put}
 use Rattle.lrc_run.specs.Editing.{IsEdited}
@@ -32,7 +32,8 @@ returns-in-Ok-clause-gains g c =
     let t = g.St.Store.state c.put.new.store in
     let u = g.St.Store.state c.values_line.new.store in
     let (before, own, opened) = c.requires.session in
-    some_then s t u (_, (c.in-Ok.ensures.edits before own opened).gains) (some_read t u c.values_line.ensures.reads)
+    let attempt = replaced before c.in-Put.path.steps (tree c.in-Put.term) in
+    some_then s t u (demands c.args.functions.now c.args.session.now.depth attempt, (c.in-Ok.ensures.edits before own opened).gains) (some_read t u c.values_line.ensures.reads)
 
 pub returns-in-Err-clause-edited : goal.returns-in-Err-clause-edited
 returns-in-Err-clause-edited g c t vs opened =

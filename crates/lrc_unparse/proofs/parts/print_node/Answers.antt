@@ -1,10 +1,8 @@
-use Rattle.std.proofs.Common.{refl, subst}
+use Rattle.std.proofs.Common.{refl}
 use Rattle.std.proofs.lemmas.Result.{on_ok_weaker}
-use Rattle.lrc_unparse.specs.Printing.{Puts}
-use Rattle.lrc_unparse.proofs.StepLemmas.{node-begun}
+use Rattle.lrc_unparse.proofs.StepLemmas.{pattern-begun}
 use Rattle.lrc_unparse.proofs.parts.print_node.Goals as goal
 
-pub returns : goal.returns
-returns c s known =
-    let called = subst (λ bytes. Puts c.args.printer.now bytes c.put.new.self) c.name_of.ensures c.in_ok-put.ensures in
-    on_ok_weaker c.push.result (λ opened. node-begun c.args.prods.now s c.args.production c.args.kids c.args.printer.now c.put.new.self c.put-2.new.self _ called c.in_ok-put-2.ensures refl opened known) c.push.ensures.ok
+pub returns-then-has_pattern : goal.returns-then-has_pattern
+returns-then-has_pattern c s known =
+    on_ok_weaker c.push.result (λ opened. pattern-begun c.args.style c.args.prods.now s c.args.production c.args.kids c.args.printer.now _ c.requires c.if-has_pattern.ensures refl opened known) c.push.ensures.ok

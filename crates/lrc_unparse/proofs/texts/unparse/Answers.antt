@@ -1,0 +1,12 @@
+use Rattle.std.proofs.Common.{ap, ◌∙◌}
+use Rattle.std.proofs.lemmas.Result.{IfOk-weaker}
+use Rattle.lrc_meaning.specs.Text.{limited}
+use Rattle.lrc_unparse.specs.declared.styles.Style.TheVariants as a_style
+use Rattle.lrc_unparse.specs.Styles.{text_of}
+use Rattle.lrc_unparse.proofs.StyleLemmas.{tree-style}
+use Rattle.lrc_unparse.proofs.texts.unparse.Goals as goal
+
+pub returns-clause-text : goal.returns-clause-text
+returns-clause-text g c t spelled stands =
+    let same = ap (λ prods. text_of a_style.Tree prods t) c.as_slice.ensures ∙ tree-style c.args.grammar.now.prods t in
+    IfOk-weaker c.printed.result _ _ (λ text is. is ∙ ap limited same) (c.printed.ensures.text t spelled stands)
