@@ -1,4 +1,4 @@
-//! Words that ask for nothing, and commands of which nothing is built.
+//! Words that ask for nothing, and the command that is not built.
 
 use crate::jobs::SMALL_JOB;
 use crate::top_call::{USAGE, assert_answer, refused};
@@ -21,10 +21,7 @@ fn words_that_are_not_taken(rt: HostRuntime) -> Result<(), Fail> {
 }
 
 #[test]
-fn commands_that_are_not_built(rt: HostRuntime) -> Result<(), Fail> {
+fn generated_jobs_are_not_built(rt: HostRuntime) -> Result<(), Fail> {
     let not_built = refused(5, b"lrc: job: not built\n");
-    for verb in ["solo", "gen"] {
-        assert_answer(&rt, rt.alloc(), &[verb], SMALL_JOB, not_built)?;
-    }
-    Ok(())
+    assert_answer(&rt, rt.alloc(), &["gen"], SMALL_JOB, not_built)
 }

@@ -29,6 +29,10 @@ mod runs;
 #[cfg(test)]
 mod small_text;
 #[cfg(test)]
+mod solo;
+#[cfg(test)]
+mod solo_store;
+#[cfg(test)]
 mod streams;
 #[cfg(test)]
 mod top_call;
