@@ -1,11 +1,11 @@
 -- The counts of edits one after another, with one more edit behind them, and of an opening that was refused.
-use Rattle.std.proofs.Common.{◌≡◌, ℕ, Bool, true, false, IsTrue, List, [], ◌∷◌, ◌++◌, map, Some, refl, sym, ap, ◌∙◌, subst}
+use Rattle.std.proofs.Common.{◌≡◌, ℕ, true, IsTrue, List, [], ◌∷◌, ◌++◌, map, refl, sym, ap, ◌∙◌, subst}
 use Rattle.std.specs.Prelude.{not}
 use Rattle.std.specs.List.{list_all}
 use Rattle.std.specs.Option.{option_map_or}
 use Rattle.std.proofs.lemmas.Bool.{and_parts, and_from}
 use Rattle.std.proofs.lemmas.List.Folds.{list_all-append}
-use Rattle.lrc_meaning.specs.Tree.{Tree, replaced, at_place}
+use Rattle.lrc_meaning.specs.Tree.{Tree, replaced}
 use Rattle.lrc_meaning.specs.Grammar.{Grammar}
 use Rattle.lrc_meaning.specs.Editing.{Change, put, copy, Reply, values, bad_path, wrong_sort, too_deep, full, unopened, shown, forgot, Attempt, tried, asked, Attempted, gives, is_too_deep, is_full, EditStep, put_nowhere, put_other_kind, puts, copy_from_nowhere, copy_to_nowhere, copy_other_kind, copies, shows, forgets, EditRun, done, then}
 use Rattle.lrc_order_meaning.specs.declared.Partition.{Partition}

@@ -1,5 +1,5 @@
 -- A whole session: its opening, and its edits one after another.
-use Rattle.std.proofs.Common.{◌≡◌, ℕ, ◌+◌, ◌-◌, ◌<◌, ◌^◌, List, [], ◌∷◌, ◌++◌, map, length, take, get_or, Some, None, refl, sym, ap, ◌∙◌, subst, append_assoc}
+use Rattle.std.proofs.Common.{◌≡◌, ℕ, ◌+◌, ◌-◌, ◌<◌, ◌^◌, List, [], ◌∷◌, ◌++◌, map, length, take, get_or, Some, None, sym, ap, ◌∙◌, subst, append_assoc}
 use Rattle.std.proofs.lemmas.List.{append-nil}
 use Rattle.std.proofs.lemmas.Bool.{false≢true}
 use Rattle.lrc_base.specs.declared.job.Edit.{Edit}
@@ -10,7 +10,7 @@ use Rattle.lrc_meaning.specs.Text.{unparsed}
 use Rattle.lrc_meaning.specs.Editing.{values, too_deep, full, Change, change, tried, gives, is_too_deep, is_full, done, opens, opens_too_deep, opens_full, all_unopened}
 use Rattle.lrc_order_meaning.specs.Ordered.{HasOrder}
 use Rattle.lrc_store.specs.Standing.{Standing}
-use Rattle.lrc_store.specs.Words.{Reads, Gains, LacksOne}
+use Rattle.lrc_store.specs.Words.{Gains, LacksOne}
 use Rattle.lrc_store.specs.Cells.{CellTree}
 use Rattle.lrc_machine.specs.Counts.{Counted}
 use Rattle.lrc_bodies.specs.Counting.{IsWhole}
@@ -20,8 +20,7 @@ use Rattle.lrc_session.specs.declared.session.Session.{Session}
 use Rattle.lrc_session.specs.Sessions.{grammar, sorts, demands, IsCalled, IsStartTree, IsTooDeep, IsOpen, Opens}
 use Rattle.lrc_run.specs.declared.reply.Line.{Line}
 use Rattle.lrc_run.specs.declared.reply.Out.{Out}
-use Rattle.lrc_run.specs.Lines.{IsLine, AreLines}
-use Rattle.lrc_run.specs.Values.{HasCountsOf}
+use Rattle.lrc_run.specs.Lines.{AreLines}
 use Rattle.lrc_run.specs.Counts.{counts_of, IsCounted}
 use Rattle.lrc_run.specs.Playing.{IsUnused, IsUncounted, RunsOut, IsLast, Plays}
 use Rattle.lrc_run.specs.Editing.{GainsSome, IsTallied, IsEdited, AreEdited, IsPlayed}
@@ -96,12 +95,15 @@ module _ (functions : Functions) where
       pub counted : IsWhole (grammar functions) (sorts functions) s.memo → Counted s t (IsCalled functions limit (tree script.tree))
       pub runs : session.runs ≡ t.missed - s.missed
 
-    pub played : (u : Standing) (session : Session) (out : Out) (o : Opens functions t limit (tree script.tree) session) → IsOpening session →
-        HasOrder (grammar functions) functions.plan.parts → IsPlayed functions t u session (tree script.tree) o.values (map change script.edits) out → Plays functions limit s u script out
-    played u session out o is order p =
+    pub played : (u : Standing) (session after : Session) (first lines : List Line) (handle : Handle) (o : Opens functions t limit (tree script.tree) session) → IsOpening session →
+        HasOrder (grammar functions) functions.plan.parts → first ≡ [] → IsPlayed functions t u session after (tree script.tree) o.values (map change script.edits) first lines → handle ≡ after.tree →
+        Plays functions limit s u script (record { lines = lines; last = Some handle })
+    played u session after first lines handle o is order none p same =
         let attempt = tried (tree script.tree) (values o.values) in
         let v = p.middle in
-        let a = subst (λ n. AreEdited functions v u n (tree script.tree) (map change script.edits) p.after (p.opening ∷ []) out.lines) o.depth p.edited in
+        let a =
+        subst (λ (ls : List Line). AreEdited functions v u limit (tree script.tree) (map change script.edits) after (ls ++ p.opening ∷ []) lines) none
+        (subst (λ n. AreEdited functions v u n (tree script.tree) (map change script.edits) after (first ++ p.opening ∷ []) lines) o.depth p.edited) in
         let held = holds_read functions limit t v (attempt ∷ []) (holds_more functions limit s t [] attempt (holds_none functions limit s unused) gains (λ _. o.seen)) p.reads in
         let r = a.runs order (attempt ∷ []) held in
         let answered : IsUncounted s → IsAnswered functions limit s t [] attempt =
@@ -122,7 +124,7 @@ module _ (functions : Functions) where
           runs = opens o.values a.replies a.after r.attempts (gives o.values (subst (λ n. Attributes (grammar functions) n (tree script.tree) o.values) o.depth (o.is_open.attributes order))) r.run;
           holds = r.holds;
           lines = subst (AreLines (grammar functions) (values o.values ∷ a.replies)) (sym a.all) (p.is_line, a.are_lines);
-          is_last = subst (IsLast u (Some a.after)) (sym p.last) a.is_open.tree;
+          is_last = subst (λ (x : Handle). IsLast u (Some a.after) (Some x)) (sym same) a.is_open.tree;
           counted = λ fresh.
               subst (λ (ls : List Line). IsCounted (grammar functions) (sorts functions) limit (tree script.tree) (map change script.edits) (values o.values ∷ a.replies) (map counts_of ls)) (sym a.all)
               (line_counted functions limit s t [] attempt (answered fresh) v session p.opening p.reads p.counts is.runs, r.counted (tallied fresh));

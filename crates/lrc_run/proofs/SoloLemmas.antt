@@ -1,5 +1,5 @@
 -- A session over a store of its own: `full` comes only where its rows are too few.
-use Rattle.std.proofs.Common.{◌≡◌, ℕ, false, refl, ◌∙◌, subst}
+use Rattle.std.proofs.Common.{◌≡◌, ℕ, false, ◌∙◌, subst}
 use Rattle.lrc_base.specs.declared.job.Script.{Script}
 use Rattle.lrc_meaning.specs.Tree.{tree}
 use Rattle.lrc_meaning.specs.Editing.{change}

@@ -1,7 +1,7 @@
 -- The counts of a session over a store of its own: how many bodies ran for an edit, and how many cells the store had then.
 --
 -- That each call runs once, and equal cells are one, is function caching and hash-consing after Pennings (1994).
-use Rattle.std.specs.Prelude.{◌≡◌, ◌↔◌, ℕ, ◌+◌, Bool, true, false, not, cond, List, [], ◌∷◌, ◌++◌, length, Option, Some, Contains, codes, decimal, ⊤}
+use Rattle.std.specs.Prelude.{◌≡◌, ◌↔◌, ℕ, ◌+◌, Bool, true, false, not, cond, List, [], ◌∷◌, ◌++◌, length, Some, Contains, codes, decimal, ⊤}
 use Rattle.std.specs.List.{list_all}
 use Rattle.lrc_meaning.specs.Tree.{Tree}
 use Rattle.lrc_meaning.specs.Grammar.{Grammar}

@@ -1,5 +1,5 @@
 -- What the edits of an open session are answered over a store, one after another.
-use Rattle.std.specs.Prelude.{ℕ, ◌≡◌, not, IsTrue, List, [], ◌∷◌, ◌++◌, Some, map, ⊤}
+use Rattle.std.specs.Prelude.{ℕ, ◌≡◌, not, IsTrue, List, [], ◌∷◌, ◌++◌, map, ⊤}
 use Rattle.lrc_meaning.specs.Tree.{Tree}
 use Rattle.lrc_meaning.specs.Grammar.{Grammar}
 use Rattle.lrc_meaning.specs.Editing.{Change, Reply, values, bad_path, wrong_sort, too_deep, full, unopened, shown, forgot, Attempt, asked, EditStep, EditRun}
@@ -14,7 +14,6 @@ use Rattle.lrc_functions.specs.declared.functions.Functions.{Functions}
 use Rattle.lrc_session.specs.declared.session.Session.{Session}
 use Rattle.lrc_session.specs.Sessions.{grammar, sorts, IsOpen}
 use Rattle.lrc_run.specs.declared.reply.Line.{Line}
-use Rattle.lrc_run.specs.declared.reply.Out.{Out}
 use Rattle.lrc_run.specs.Lines.{IsLine, AreLines}
 use Rattle.lrc_run.specs.Values.{HasCountsOf}
 use Rattle.lrc_run.specs.Counts.{Counts, counts_of, stops_counts, are_all_counted, HasCounts, Tallies, AreCounted}
@@ -87,12 +86,10 @@ module _ (functions : Functions) (s t : Standing) (limit : ℕ) where
 
 module _ (functions : Functions) (s t : Standing) where
   -- A session with this tree and these values was answered the line of the values, and then those of the edits.
-  pub record IsPlayed (session : Session) (before : Tree) (vs : List Tree) (cs : List Change) (out : Out) : Type 0 where
+  pub record IsPlayed (session after : Session) (before : Tree) (vs : List Tree) (cs : List Change) (earlier_lines lines : List Line) : Type 0 where
     pub middle : Standing
     pub reads : Reads s middle
     pub opening : Line
     pub is_line : IsLine (grammar functions) (values vs) opening
     pub counts : HasCountsOf middle session opening
-    pub after : Session
-    pub edited : AreEdited functions middle t session.depth before cs after (opening ∷ []) out.lines
-    pub last : out.last ≡ Some after.tree
+    pub edited : AreEdited functions middle t session.depth before cs after (earlier_lines ++ opening ∷ []) lines

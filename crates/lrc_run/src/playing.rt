@@ -67,28 +67,24 @@ fn push_edited<St: Store<M = VisitMeaning>>(
     Ok(())
 }
 
-/// What an open session is answered: the line of its values, and then each edit's.
-fn opened<St: Store<M = VisitMeaning>>(
+/// Appends the line of an open session's values, and then that of each edit.
+fn push_lines<St: Store<M = VisitMeaning>>(
     alloc: Global,
     store: &mut St,
     functions: &Functions,
-    mut session: Session,
+    session: &mut Session,
     edits: &[Edit],
-) -> Result<Out, Memory>
+    lines: &mut List<Line>,
+) -> Result<(), Memory>
     requires meaning { IsMeaningOf functions.now (St.meaning store.old) }
-    requires session { (t : Tree) × (vs : List Tree) × IsOpen functions.now (St.state store.old) session t vs }
+    requires session { (t : Tree) × (vs : List Tree) × IsOpen functions.now (St.state store.old) session.old t vs }
     requires puts { IsTrue (are_fitting_puts functions.now.plan.grammar.prods edits.now) }
-    ensures played { (t : Tree) (vs : List Tree) → IsOpen functions.now (St.state store.old) session t vs → IfOk result (λ out. IsPlayed functions.now (St.state store.old) (St.state store.new) session t vs (map change edits.now) out) }
+    ensures played { (t : Tree) (vs : List Tree) → IsOpen functions.now (St.state store.old) session.old t vs → IfOk result (λ _. IsPlayed functions.now (St.state store.old) (St.state store.new) session.old session.new t vs (map change edits.now) lines.old lines.new) }
     ensures gains { GainsSome (St.state store.old) (St.state store.new) }
     ensures same_meaning { St.meaning store.new ≡ St.meaning store.old }
 {
-    let mut lines = List::new(alloc);
-    lines.push(values_line(alloc, store, functions, &session)?)?;
-    push_edited(alloc, store, functions, &mut session, edits, &mut lines)?;
-    Ok(Out {
-        lines,
-        last: Some(session.tree()),
-    })
+    lines.push(values_line(alloc, store, functions, session)?)?;
+    push_edited(alloc, store, functions, session, edits, lines)
 }
 
 /// Plays a session of puts over a store that nothing was put into: each edit's line, and the last tree.
@@ -113,7 +109,14 @@ pub fn play<St: Store<M = VisitMeaning>>(
 {
     let edits = script.edits.as_slice();
     match Session::start(alloc, store, functions, depth, &script.tree) {
-        Ok(session) => opened(alloc, store, functions, session, edits),
+        Ok(mut session) => {
+            let mut lines = List::new(alloc);
+            push_lines(alloc, store, functions, &mut session, edits, &mut lines)?;
+            Ok(Out {
+                lines,
+                last: Some(session.tree()),
+            })
+        }
         Err(StartFault::TooDeep) => unopened(alloc, Outcome::TooDeep, edits),
         Err(StartFault::Full) => unopened(alloc, Outcome::Full, edits),
         Err(StartFault::Memory) => Err(AllocError),

@@ -1,5 +1,4 @@
 use Rattle.std.proofs.Common.{◌∷◌, Err, List, map, ap, subst}
-use Rattle.std.proofs.lemmas.Result.{IfOk-weaker}
 use Rattle.lrc_base.specs.declared.job.Edit.{Edit}
 use Rattle.lrc_meaning.specs.Tree.{tree}
 use Rattle.lrc_meaning.specs.Editing.{too_deep, full, change, all_unopened}
@@ -11,25 +10,27 @@ use Rattle.lrc_run.proofs.LineLemmas.{both_ok}
 use Rattle.lrc_run.proofs.SessionLemmas.{IsOpening, played, too_deep_played, full_played}
 use Rattle.lrc_run.proofs.playing.play.Goals as goal
 
-pub returns-in-Ok-clause-plays : goal.returns-in-Ok-clause-plays
-returns-in-Ok-clause-plays g c order =
+pub returns-in_ok-push_lines-in-Ok-clause-plays : goal.returns-in_ok-push_lines-in-Ok-clause-plays
+returns-in_ok-push_lines-in-Ok-clause-plays g c order =
     let f = c.args.functions.now in
     let s = g.St.Store.state c.args.store.now in
     let t = g.St.Store.state c.start.new.store in
-    let u = g.St.Store.state c.opened.new.store in
+    let u = g.St.Store.state c.push_lines.new.store in
     let script = c.args.script.now in
     let o = c.in-Ok.ensures.opens in
+    let after = c.push_lines.new.session in
+    let first = c.new-lines.result in
+    let lines = c.push_lines.new.lines in
     let is : IsOpening f s t c.args.depth script c.requires.unused c.start.ensures.gains c.in-Ok.session =
     record { whole = c.start.ensures.whole; counted = c.in-Ok.ensures.counted; runs = c.in-Ok.ensures.runs } in
-    IfOk-weaker c.opened.result _ _
-    (λ out p.
-    played f s t c.args.depth script c.requires.unused c.start.ensures.gains u c.in-Ok.session out o is order
-    (subst (λ (edits : List Edit). IsPlayed f t u c.in-Ok.session (tree script.tree) o.values (map change edits) out) c.as_slice-edits.ensures p))
-    (c.opened.ensures.played (tree script.tree) o.values o.is_open)
+    played f s t c.args.depth script c.requires.unused c.start.ensures.gains u c.in-Ok.session after first lines c.tree.result o is order c.new-lines.ensures
+    (subst (λ (edits : List Edit). IsPlayed f t u c.in-Ok.session after (tree script.tree) o.values (map change edits) first lines) c.as_slice-edits.ensures
+    (c.in_ok-push_lines-in-Ok.ensures.played (tree script.tree) o.values o.is_open))
+    c.tree.ensures
 
-pub returns-in-Ok-clause-lasts : goal.returns-in-Ok-clause-lasts
-returns-in-Ok-clause-lasts g c =
-    lasts-then (g.St.Store.state c.args.store.now) (g.St.Store.state c.start.new.store) (g.St.Store.state c.opened.new.store) c.start.ensures.gains.lasts c.opened.ensures.gains.1.lasts
+pub returns-in_ok-push_lines-in-Ok-clause-lasts : goal.returns-in_ok-push_lines-in-Ok-clause-lasts
+returns-in_ok-push_lines-in-Ok-clause-lasts g c =
+    lasts-then (g.St.Store.state c.args.store.now) (g.St.Store.state c.start.new.store) (g.St.Store.state c.push_lines.new.store) c.start.ensures.gains.lasts c.push_lines.ensures.gains.1.lasts
 
 pub returns-in-Err-TooDeep-clause-plays : goal.returns-in-Err-TooDeep-clause-plays
 returns-in-Err-TooDeep-clause-plays g c order =
