@@ -4,3 +4,4 @@ pub mod TopLemmas
 pub mod PlacedLemmas
 pub mod RunLemmas
 pub mod RoomLemmas
+pub mod SoloLemmas

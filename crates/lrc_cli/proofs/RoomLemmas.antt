@@ -4,8 +4,7 @@ use Rattle.lrc_meaning.specs.Tree.{Tree}
 use Rattle.lrc_meaning.specs.Grammar.{Grammar}
 use Rattle.lrc_meaning.specs.Editing.{Change, Reply, full, Attempt, Attempted, gives, is_too_deep, is_full, EditStep, put_nowhere, put_other_kind, puts, copy_from_nowhere, copy_to_nowhere, copy_other_kind, copies, shows, forgets, EditRun, done, then, ReplyRun, opens, opens_too_deep, opens_full, never_full}
 use Rattle.lrc_meaning.specs.Text.{unparsed}
-use Rattle.lrc_run.specs.Rows.{RowsRunOut}
-use Rattle.lrc_cli.specs.Headline.{HasRoom, IsRunOf, IsRunWithRoom}
+use Rattle.lrc_cli.specs.Headline.{HasRoom, Run, runs_out, IsRunOf, IsRunWithRoom, IsSoloOf, IsSoloWithRoom}
 
 module _ (g : Grammar) (limit : ℕ) (text_of : Tree → List ℕ) (may_come : List Attempt → Tree → Type 0) where
   attempted : (earlier : List Attempt) (before attempt : Tree) (r : Reply) (after : Tree) → Attempted g limit text_of may_come earlier before attempt r after → r ≢ full
@@ -37,21 +36,22 @@ module _ (g : Grammar) (limit : ℕ) (text_of : Tree → List ℕ) (may_come : L
   session opening cs rs last all (opens_too_deep attempt) n = opens_too_deep (attempted _ opening opening _ opening attempt n.0)
   session opening cs rs last all (opens_full attempt) n = absurd (n.0 refl)
 
+abbrev run_with_room : (bytes : List ℕ) (rows depth : ℕ) (r : Run (runs_out rows depth) bytes depth) → HasRoom r.replies → Run (λ g parts. never_full) bytes depth
+run_with_room bytes rows depth r n = record {
+  grammar = r.grammar;
+  parts = r.parts;
+  opening = r.opening;
+  changes = r.changes;
+  built = r.built;
+  ordered = r.ordered;
+  replies = r.replies;
+  last = r.last;
+  attempts = r.attempts;
+  runs = session r.grammar depth (unparsed r.grammar.prods) (runs_out rows depth r.grammar r.parts) r.opening r.changes r.replies r.last r.attempts r.runs n;
+}
+
 pub with_room : (bytes text : List ℕ) (rows depth : ℕ) (is : IsRunOf bytes rows depth text) → HasRoom is.run.replies → IsRunWithRoom bytes depth text
-with_room bytes text rows depth is n =
-    let r = is.run in
-    record {
-      run = record {
-        grammar = r.grammar;
-        parts = r.parts;
-        opening = r.opening;
-        changes = r.changes;
-        built = r.built;
-        ordered = r.ordered;
-        replies = r.replies;
-        last = r.last;
-        attempts = r.attempts;
-        runs = session r.grammar depth (unparsed r.grammar.prods) (RowsRunOut r.grammar r.parts.sorts depth rows) r.opening r.changes r.replies r.last r.attempts r.runs n;
-      };
-      prints = is.prints;
-    }
+with_room bytes text rows depth is n = record { run = run_with_room bytes rows depth is.run n; prints = is.prints }
+
+pub solo_with_room : (bytes text : List ℕ) (rows depth : ℕ) (is : IsSoloOf bytes rows depth text) → HasRoom is.run.replies → IsSoloWithRoom bytes depth text
+solo_with_room bytes text rows depth is n = record { run = run_with_room bytes rows depth is.run n; counts = is.counts; counted = is.counted; prints = is.prints }

@@ -15,6 +15,7 @@ use Rattle.lrc_meaning.specs.Tree.{Tree, tree, fits}
 use Rattle.lrc_meaning.specs.Grammar.{Grammar, is_well_formed}
 use Rattle.lrc_meaning.specs.Editing.{Change, change, Reply, Attempt, ReplyRun, never_full}
 use Rattle.lrc_meaning.specs.Text.{unparsed, run_text}
+use Rattle.lrc_order_meaning.specs.declared.Partition.{Partition}
 use Rattle.lrc_order_meaning.specs.Ordered.{Partitions, HasOrder}
 use Rattle.lrc_order_meaning.proofs.OrderLemmas.{has_order}
 use Rattle.lrc_laws.specs.Laws.{AttributionsAreUnique}
@@ -30,14 +31,15 @@ use Rattle.lrc_functions.specs.declared.functions.Functions.{Functions}
 use Rattle.lrc_store.specs.Standing.{Standing}
 use Rattle.lrc_session.specs.Sessions.{grammar}
 use Rattle.lrc_run.specs.declared.reply.Out.{Out}
-use Rattle.lrc_run.specs.Counts.{counts_of}
+use Rattle.lrc_run.specs.Counts.{Counts, counts_of, IsCounted, counted_lines}
 use Rattle.lrc_run.specs.Solo.{IsSolo}
 use Rattle.lrc_run.specs.Playing.{is_fitting_put, are_fitting_puts}
-use Rattle.lrc_cli.specs.Headline.{is_put, IsAccepted, IsBuilt, IsOrderedBy, HasPartitions, Run, runs_out, IsRunWithRoom, IsOutputOf}
+use Rattle.lrc_cli.specs.Headline.{is_put, IsAccepted, IsBuilt, IsOrderedBy, HasPartitions, Run, runs_out, solo_text, IsRunWithRoom, IsSoloWithRoom, IsOutputOf}
 use Rattle.lrc_cli.specs.Causes.{row_limit, RunsSessions, TakesSessions}
 use Rattle.lrc_cli.specs.Printed.{is_counted, one_session}
 use Rattle.lrc_cli.specs.Running.{IsBuiltSession}
 use Rattle.lrc_cli.proofs.OneLemmas.{one_session_of}
+use Rattle.lrc_cli.proofs.SoloLemmas.{same_lines}
 use Rattle.lrc_cli.proofs.TextLemmas.{run_text-one_session, solo_text-one_session}
 
 -- ---- the one session fits
@@ -221,15 +223,50 @@ same_text : (g h : Grammar) (rs qs : List Reply) (last end : Option Tree) → g 
 same_text g h rs qs last end e f k =
     ap (λ (z : Grammar). run_text z (rs ∷ []) (last ∷ [])) e ∙ ap (λ (z : List Reply). run_text h (z ∷ []) (last ∷ [])) f ∙ ap (λ (z : Option Tree). run_text h (qs ∷ []) (z ∷ [])) k
 
-pub one_text_of : OneJob → AttributionsAreUnique → (bytes text other : List ℕ) (depth : ℕ) → IsRunWithRoom bytes depth text → IsRunWithRoom bytes depth other → text ≡ other
-one_text_of one unique bytes text other depth first second =
-    let a = first.run in
-    let b = second.run in
+-- two runs in which no reply is `full` have the same grammar, tree, changes, replies and last tree
+record IsSameRun (bytes : List ℕ) (depth : ℕ) (a b : Run (λ g parts. never_full) bytes depth) : Type 0 where
+  grammar : a.grammar ≡ b.grammar
+  opening : a.opening ≡ b.opening
+  changes : a.changes ≡ b.changes
+  replies : a.replies ≡ b.replies
+  last : a.last ≡ b.last
+
+same_run : OneJob → AttributionsAreUnique → (bytes : List ℕ) (depth : ℕ) (a b : Run (λ g parts. never_full) bytes depth) → IsSameRun bytes depth a b
+same_run one unique bytes depth a b =
     let same = same_session one bytes a.grammar b.grammar a.opening b.opening a.changes b.changes a.built b.built in
     let here = moved depth a.grammar b.grammar a.opening b.opening a.changes b.changes a.replies a.last a.attempts same.0 same.1 same.2 a.runs in
     let order = order_of b.grammar b.parts (well_formed bytes b.grammar _ b.built.accepted) b.ordered in
     let answers = one_session_of unique b.grammar b.parts depth (unparsed b.grammar.prods) b.opening b.changes a.replies b.replies a.last b.last a.attempts b.attempts order here b.runs in
-    first.prints ∙ same_text a.grammar b.grammar a.replies b.replies a.last b.last same.0 answers.0 answers.1 ∙ sym second.prints
+    record { grammar = same.0; opening = same.1; changes = same.2; replies = answers.0; last = answers.1 }
+
+pub one_text_of : OneJob → AttributionsAreUnique → (bytes text other : List ℕ) (depth : ℕ) → IsRunWithRoom bytes depth text → IsRunWithRoom bytes depth other → text ≡ other
+one_text_of one unique bytes text other depth a b =
+    let same = same_run one unique bytes depth a.run b.run in
+    a.prints ∙ same_text a.run.grammar b.run.grammar a.run.replies b.run.replies a.run.last b.run.last same.grammar same.replies same.last ∙ sym b.prints
+
+-- the counts of a run, whichever its grammar, partitions, tree, changes and replies are called
+moved_counts : (depth : ℕ) (g h : Grammar) (parts sorts : List Partition) (t u : Tree) (cs ds : List Change) (rs qs : List Reply) (ns : List Counts) → g ≡ h → parts ≡ sorts → t ≡ u → cs ≡ ds → rs ≡ qs →
+    IsCounted g parts depth t cs rs ns → IsCounted h sorts depth u ds qs ns
+moved_counts depth g h parts sorts t u cs ds rs qs ns e f k l m c =
+    subst (λ (z : List Reply). IsCounted h sorts depth u ds z ns) m
+    (subst (λ (z : List Change). IsCounted h sorts depth u z rs ns) l
+    (subst (λ (z : Tree). IsCounted h sorts depth z cs rs ns) k
+    (subst (λ (z : List Partition). IsCounted h z depth t cs rs ns) f
+    (subst (λ (z : Grammar). IsCounted z parts depth t cs rs ns) e c))))
+
+same_solo_text : (g h : Grammar) (rs qs : List Reply) (ms ns : List Counts) (last end : Option Tree) → g ≡ h → rs ≡ qs → last ≡ end → counted_lines h 0 qs ms ≡ counted_lines h 0 qs ns → solo_text g rs ms last ≡ solo_text h qs ns end
+same_solo_text g h rs qs ms ns last end e f k lines =
+    ap (λ (z : Grammar). solo_text z rs ms last) e ∙ ap (λ (z : List Reply). solo_text h z ms last) f ∙ ap (λ (z : Option Tree). solo_text h qs ms z) k ∙ simp (lines)
+
+pub one_solo_of : OneJob → AttributionsAreUnique → (bytes text other : List ℕ) (depth : ℕ) (is : IsSoloWithRoom bytes depth text) (again : IsSoloWithRoom bytes depth other) →
+    is.run.parts.sorts ≡ again.run.parts.sorts → text ≡ other
+one_solo_of one unique bytes text other depth is again sorts =
+    let a = is.run in
+    let b = again.run in
+    let same = same_run one unique bytes depth a b in
+    let counted = moved_counts depth a.grammar b.grammar a.parts.sorts b.parts.sorts a.opening b.opening a.changes b.changes a.replies b.replies is.counts same.grammar sorts same.opening same.changes same.replies is.counted in
+    let lines = same_lines b.grammar b.parts.sorts depth (unparsed b.grammar.prods) never_full b.opening b.changes b.replies b.last b.attempts is.counts again.counts b.runs counted again.counted in
+    is.prints ∙ same_solo_text a.grammar b.grammar a.replies b.replies is.counts again.counts a.last b.last same.grammar same.replies same.last lines ∙ sym again.prints
 
 -- ---- which refusals do not come
 

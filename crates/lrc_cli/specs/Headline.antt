@@ -120,6 +120,9 @@ HasRoom replies = AllByRecursion (λ reply. reply ≢ full) replies
 abbrev pub IsRunWithRoom : List ℕ → ℕ → List ℕ → Type 0
 IsRunWithRoom bytes depth text = IsRunUnder (λ grammar parts. never_full) bytes depth text
 
+abbrev pub IsSoloWithRoom : List ℕ → ℕ → List ℕ → Type 0
+IsSoloWithRoom bytes depth text = IsSoloUnder (λ grammar parts. never_full) bytes depth text
+
 -- What a command prints for its input, with so many rows and this depth.
 abbrev pub IsOutputOf : Verb → ℕ → ℕ → List ℕ → List ℕ → Type 0
 IsOutputOf verb.Run rows depth bytes text = IsRunOf bytes rows depth text

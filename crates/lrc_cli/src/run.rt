@@ -8,7 +8,7 @@ ghost use Rattle.lrc_job.specs.Job.{session};
 ghost use Rattle.lrc_words.specs.declared.command.Command.{Command};
 ghost use Rattle.lrc_words.specs.declared.command.Verb.TheVariants as v;
 ghost use Rattle.lrc_words.specs.CommandLine.{IsWithinRanges};
-ghost use Rattle.lrc_cli.specs.Headline.{is_put, is_number, IsAccepted, HasRoom, IsRunOf, IsRunWithRoom, IsOutputOf};
+ghost use Rattle.lrc_cli.specs.Headline.{is_put, is_number, IsAccepted, HasRoom, IsRunOf, IsRunWithRoom, IsSoloOf, IsSoloWithRoom, IsOutputOf};
 ghost use Rattle.lrc_cli.specs.Causes.{row_limit, RunsSessions, TakesSessions, IsUnordered, IsCause};
 ghost use Rattle.lrc_cli.specs.Printed.{is_counted};
 ghost use Rattle.lrc_cli.specs.Running.{IsBuiltSession};
@@ -140,10 +140,13 @@ pub fn run_text(alloc: Global, command: &Command, bytes: &[u8]) -> Result<Vec<u8
 }
 
 /// The text of a run where no reply is `full` is fixed by the bytes of the job and the most nodes on a
-/// path, whatever the rows: the bytes denote one job, and its session has one list of replies.
+/// path, whatever the rows: the bytes denote one job, and its session has one list of replies. With counts it
+/// is so too, by the partitions of the grammar, from which these are read off.
 pub fn one_text()
     ensures one { (bytes text other : List ℕ) (depth : ℕ) → IsRunWithRoom bytes depth text → IsRunWithRoom bytes depth other → text ≡ other }
     ensures room { (bytes text : List ℕ) (rows depth : ℕ) (is : IsRunOf bytes rows depth text) → HasRoom is.run.replies → IsRunWithRoom bytes depth text }
+    ensures one_solo { (bytes text other : List ℕ) (depth : ℕ) (is : IsSoloWithRoom bytes depth text) (again : IsSoloWithRoom bytes depth other) → is.run.parts.sorts ≡ again.run.parts.sorts → text ≡ other }
+    ensures solo_room { (bytes text : List ℕ) (rows depth : ℕ) (is : IsSoloOf bytes rows depth text) → HasRoom is.run.replies → IsSoloWithRoom bytes depth text }
 {
     one_job();
     attribution_is_unique();

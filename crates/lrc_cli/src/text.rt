@@ -24,7 +24,11 @@ fn push_number(text: &mut Vec<u8>, number: u64) -> Result<(), Memory>
 fn goes_on(counted: bool, outcome: Outcome) -> bool
     ensures { result ≡ goes_on counted outcome }
 {
-    counted && !matches!(outcome, Outcome::TooDeep | Outcome::Full | Outcome::Unopened)
+    let stops = matches!(
+        outcome,
+        Outcome::TooDeep | Outcome::Full | Outcome::Unopened
+    );
+    counted && !stops
 }
 
 fn has_values(outcome: Outcome) -> bool

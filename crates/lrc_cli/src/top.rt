@@ -8,7 +8,7 @@ ghost use Rattle.lrc_failures.specs.Lines.{status_of, line_of, IsStatus};
 ghost use Rattle.lrc_failures.specs.Gains.{GainsLine};
 ghost use Rattle.lrc_failures.specs.declared.failure.Failure.{Failure};
 ghost use Rattle.lrc_failures.specs.declared.failure.Failure.TheVariants as f;
-ghost use Rattle.lrc_cli.specs.Headline.{HasRoom, IsOutputOf, IsRunOf, IsRunWithRoom};
+ghost use Rattle.lrc_cli.specs.Headline.{HasRoom, IsOutputOf, IsRunOf, IsRunWithRoom, IsSoloOf, IsSoloWithRoom};
 ghost use Rattle.lrc_cli.specs.Causes.{IsBuiltVerb, IsUnbuiltVerb, ReadsNothing, IsCause};
 ghost use Rattle.lrc_cli.specs.Status.{Done, Unwritten, Refused, HoldsJob, is_refusal, input_limit};
 
@@ -127,6 +127,8 @@ pub fn lrc<R: Threads + Sync, S: Source, O: Sink, E: Sink>(
     ensures done { result ≡ 0 → Done words.now (S.left source.old) (S.left source.new) (O.held out.old) (O.held out.new) }
     ensures one_text { (bytes text other : List ℕ) (depth : ℕ) → IsRunWithRoom bytes depth text → IsRunWithRoom bytes depth other → text ≡ other }
     ensures room { (bytes text : List ℕ) (rows depth : ℕ) (is : IsRunOf bytes rows depth text) → HasRoom is.run.replies → IsRunWithRoom bytes depth text }
+    ensures one_solo { (bytes text other : List ℕ) (depth : ℕ) (is : IsSoloWithRoom bytes depth text) (again : IsSoloWithRoom bytes depth other) → is.run.parts.sorts ≡ again.run.parts.sorts → text ≡ other }
+    ensures solo_room { (bytes text : List ℕ) (rows depth : ℕ) (is : IsSoloOf bytes rows depth text) → HasRoom is.run.replies → IsSoloWithRoom bytes depth text }
     ensures usage { result ≡ 2 → AreRefused (texts words.now) ⊎ (verb_of (texts words.now) ≡ None) }
     ensures unread { result ≡ 2 → Keeps (S.left source.old) (S.left source.new) }
     ensures command { result ≢ 2 → result ≢ 7 → (command : Command) × Says (texts words.now) command }

@@ -1,5 +1,5 @@
-use Rattle.lrc_cli.proofs.RunLemmas.{one_text_of}
-use Rattle.lrc_cli.proofs.RoomLemmas.{with_room}
+use Rattle.lrc_cli.proofs.RunLemmas.{one_text_of, one_solo_of}
+use Rattle.lrc_cli.proofs.RoomLemmas.{with_room, solo_with_room}
 use Rattle.lrc_cli.proofs.run.one_text.Goals as goal
 
 pub returns-clause-one : goal.returns-clause-one
@@ -7,3 +7,9 @@ returns-clause-one c = one_text_of c.one_job.ensures c.attribution_is_unique.ens
 
 pub returns-clause-room : goal.returns-clause-room
 returns-clause-room c = with_room
+
+pub returns-clause-one_solo : goal.returns-clause-one_solo
+returns-clause-one_solo c = one_solo_of c.one_job.ensures c.attribution_is_unique.ensures
+
+pub returns-clause-solo_room : goal.returns-clause-solo_room
+returns-clause-solo_room c = solo_with_room

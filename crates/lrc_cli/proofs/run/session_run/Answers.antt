@@ -38,7 +38,7 @@ returns-clause-output c =
     let plan = c.in_ok-plan.plan in
     let out = c.in_ok-out.out in
     let order =
-      order_moved c.in_ok-functions.functions plan (grammar_of g) c.in_ok-functions.ensures c.in_ok-plan.ensures.grammar (order_of (grammar_of g) plan.parts g.ok c.in_ok-plan.ensures.parts) in
+    order_moved c.in_ok-functions.functions plan (grammar_of g) c.in_ok-functions.ensures c.in_ok-plan.ensures.grammar (order_of (grammar_of g) plan.parts g.ok c.in_ok-plan.ensures.parts) in
     output_of c.in_ok-functions.functions plan (grammar_of g) c.in_ok-functions.ensures c.in_ok-plan.ensures.grammar c.args.command.now.verb bytes c.in_ok-session_text.field-0.items c.args.command.now.rows
     c.args.command.now.depth script (state_of c.in_ok-out._store) out c.requires.runs c.in_ok-plan.ensures.parts (built bytes (grammar_of g) c.args.accepted.now.sessions script c.requires.session accepted)
     (c.in_ok-out.ensures.solo order) (c.in_ok-session_text.ensures ∙ ap (λ (b : Bool). one_session b out) c.is_counted.ensures)
