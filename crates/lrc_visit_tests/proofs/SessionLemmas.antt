@@ -1,5 +1,5 @@
 -- Sessions that stay open, and what fits in the sessions of a job.
-use Rattle.std.proofs.Common.{◌≡◌, ℕ, ◌<◌, Bool, true, IsTrue, List, [], ◌∷◌, length, slice_get, Option, Some, IsSome, Result, Ok, Err, subst, sym, refl, arith}
+use Rattle.std.proofs.Common.{◌≡◌, ℕ, ◌<◌, IsTrue, List, [], ◌∷◌, length, slice_get, Option, Some, IsSome, Result, Ok, Err, subst, sym, refl, arith}
 use Rattle.std.specs.List.{list_all}
 use Rattle.std.proofs.lemmas.Bool.{and_parts}
 use Rattle.lrc_base.specs.declared.grammar.Kind.{Kind}

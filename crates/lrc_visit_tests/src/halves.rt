@@ -116,7 +116,9 @@ fn edited<St: Store<M = VisitMeaning>>(
     requires fits { IsTrue (list_all (edit_fits functions.now.plan.grammar.prods) edits.now) }
 {
     let first = edits.first().ok_or("no edit")?;
-    edit(store, functions, session, first).ok().ok_or("refused")?;
+    edit(store, functions, session, first)
+        .ok()
+        .ok_or("refused")?;
     Ok(shown(alloc, store, functions, session)?)
 }
 
@@ -130,9 +132,17 @@ fn played<St: Store<M = VisitMeaning>>(
     requires meaning { IsMeaningOf functions.now (St.meaning store.old) }
     requires fits { IsTrue (script_fits functions.now.plan.grammar.prods functions.now.plan.grammar.start script.now) }
 {
-    let mut session = opened(alloc, store, functions, &script.tree).ok().ok_or("not opened")?;
+    let mut session = opened(alloc, store, functions, &script.tree)
+        .ok()
+        .ok_or("not opened")?;
     let before = shown(alloc, store, functions, &session)?;
-    let after = edited(alloc, store, functions, &mut session, script.edits.as_slice())?;
+    let after = edited(
+        alloc,
+        store,
+        functions,
+        &mut session,
+        script.edits.as_slice(),
+    )?;
     Ok((before, after))
 }
 

@@ -158,11 +158,7 @@ fn played<St: Store<M = VisitMeaning>>(
 }
 
 /// What the session of the sum is answered over a store of so many rows.
-fn sum_played(
-    alloc: Global,
-    rows: u32,
-    depth: u32,
-) -> Result<Result<Vec<Answer>, StartFault>, Fail>
+fn sum_played(alloc: Global, rows: u32, depth: u32) -> Result<Result<Vec<Answer>, StartFault>, Fail>
     requires some { 1 ≤ rows }
     requires limit { rows ≤ 2 ^ 24 }
 {

@@ -17,8 +17,8 @@ returns-clause-session g c =
     let asked = proposed.call.asked in
     let visited = c.in_ok-given.ensures in
     let opens =
-        c.begin.ensures.opens t
-        (proposed_later functions m u t c.in_ok-proposal.proposal _ (visited.gains (root_call t) asked).lasts.known refl (subst (HasFrames functions c.visit.new.frames) (sym depth) visited.levels) proposed)
-        (subst (λ n. IsRootGiven functions u n t c.in_ok-given.given.0) (sym depth) (visited.gives (root_call t) asked))
+    c.begin.ensures.opens t
+    (proposed_later functions m u t c.in_ok-proposal.proposal _ (visited.gains (root_call t) asked).lasts.known refl (subst (HasFrames functions c.visit.new.frames) (sym depth) visited.levels) proposed)
+    (subst (λ n. IsRootGiven functions u n t c.in_ok-given.given.0) (sym depth) (visited.gives (root_call t) asked))
     in
     (t, opens.values, opens.is_open)

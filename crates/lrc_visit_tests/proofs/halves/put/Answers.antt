@@ -34,6 +34,6 @@ returns g c =
     let asked = (c.in_ok-call.ensures.proposes whole vs has).answers.1 in
     let visited = c.in_ok-given.ensures in
     let opens =
-        c.settle.ensures.settles attempt (asked_later functions t u attempt c.in_ok-call.call.0 (visited.gains (root_call attempt) asked.asked).lasts.known asked) (visited.gives (root_call attempt) asked.asked)
+    c.settle.ensures.settles attempt (asked_later functions t u attempt c.in_ok-call.call.0 (visited.gains (root_call attempt) asked.asked).lasts.known asked) (visited.gives (root_call attempt) asked.asked)
     in
     (attempt, opens.values, opens.is_open)

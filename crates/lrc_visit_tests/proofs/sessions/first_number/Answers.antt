@@ -11,9 +11,13 @@ attribute-handle-requires g c =
     let (functions, opened) = c.requires in
     let (whole, vs, has) = opened in
     let s = g.St.Store.state c.args.store.now in
-    let t = g.St.Store.state c.has_values.new.store in
-    (functions, whole, vs, open_later functions s t c.args.session.now whole vs c.has_values.ensures.reads.stays.lasts has,
-    c.has_values.ensures.some vs (subst (λ h. Stands s h.0 (values_cell vs)) (sym c.values.ensures) has.values) c.if-has_values.true)
+    let t = g.St.Store.state c.has_values.new.store in (
+      functions,
+      whole,
+      vs,
+      open_later functions s t c.args.session.now whole vs c.has_values.ensures.reads.stays.lasts has,
+      c.has_values.ensures.some vs (subst (λ h. Stands s h.0 (values_cell vs)) (sym c.values.ensures) has.values) c.if-has_values.true,
+    )
 
 pub number-requires : goal.number-requires
 number-requires g c =
