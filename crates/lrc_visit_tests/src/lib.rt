@@ -11,10 +11,18 @@ mod equations;
 #[cfg(test)]
 mod expressions;
 #[cfg(test)]
+mod halves;
+#[cfg(test)]
 mod handles;
+#[cfg(test)]
+mod jobs;
 #[cfg(test)]
 mod kinds;
 #[cfg(test)]
 mod nodes;
 #[cfg(test)]
 mod putting;
+#[cfg(test)]
+mod sessions;
+#[cfg(test)]
+mod texts;
