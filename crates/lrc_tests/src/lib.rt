@@ -31,6 +31,8 @@ mod small_text;
 #[cfg(test)]
 mod solo;
 #[cfg(test)]
+mod solo_store;
+#[cfg(test)]
 mod streams;
 #[cfg(test)]
 mod top_call;
