@@ -1,0 +1,4 @@
+pub mod ForestLemmas
+pub mod HeightLemmas
+pub mod ItemLemmas
+pub mod RawItemLemmas

@@ -1,5 +1,6 @@
 use crate::grammar::Kind;
-use crate::raw::{RawGrammar, RawTerm};
+use crate::raw::RawGrammar;
+use crate::raw_term::RawTerm;
 use crate::term::Term;
 use sqlite_items::Items;
 

@@ -25,8 +25,11 @@ pub const LOCAL_LIMIT: usize = 16;
 /// The most nodes of an equation's expression.
 pub const NODE_LIMIT: usize = 1000;
 
-/// The most expressions, or terms, within one another, the outermost included.
+/// The most expressions within one another, the outermost included.
 pub const LEVEL_LIMIT: usize = 1000;
+
+/// The most terms within one another, the outermost included.
+pub const TERM_LEVEL_LIMIT: usize = 1000;
 
 /// The most sessions of a job.
 pub const SESSION_LIMIT: usize = 64;

@@ -8,7 +8,8 @@ use std::marker::Model;
 #[derive(Debug)]
 pub struct NameText {
     padded: [u8; NAME_LIMIT],
-    len: usize,
+    /// How many of them are the name.
+    len: u8,
 }
 
 impl Model for NameText {
@@ -71,7 +72,7 @@ impl NameText {
         }
         Some(NameText {
             padded,
-            len: bytes.len(),
+            len: bytes.len() as u8,
         })
     }
 
@@ -80,6 +81,6 @@ impl NameText {
         ensures value { result.now ≡ self.now }
         ensures name { IsName self.now }
     {
-        &self.padded[..self.len]
+        &self.padded[..usize::from(self.len)]
     }
 }

@@ -84,13 +84,3 @@ pub struct RawGrammar {
     pub prods: Items<RawProd>,
     pub start: NameText,
 }
-
-/// A term as it is written.
-#[derive(Debug, Drop)]
-pub enum RawTerm {
-    Int(i64),
-    Bool(bool),
-    Name(NameText),
-    /// The name of a production, and its children.
-    Node(NameText, Items<RawTerm>),
-}

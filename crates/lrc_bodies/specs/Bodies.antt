@@ -1,5 +1,5 @@
 -- Bodies of visits over a store: what handles stand for, and where a body is in its actions.
-use Rattle.std.specs.Prelude.{◌≡◌, ℕ, ◌-◌, ◌≤◌, List, [], flat_map, length, Some, Contains, slice_index_or}
+use Rattle.std.specs.Prelude.{◌≡◌, ℕ, ◌-◌, ◌*◌, ◌≤◌, max, List, [], flat_map, length, Some, Contains, slice_index_or}
 use Rattle.lrc_base.specs.declared.grammar.Production.{Production}
 use Rattle.lrc_meaning.specs.Grammar.{Grammar}
 use Rattle.lrc_grammar.specs.Grammar.{grammar_of}
@@ -39,6 +39,10 @@ most_left productions = length (flat_map (λ functions. flat_map (λ (f : Functi
 -- the frame has room for the items of each production
 abbrev pub HasRoom : List ℕ → List Val → Type 0
 HasRoom counts frame = (n : ℕ) → Contains counts n → n ≤ length frame
+
+-- the room on a stack by which a term of so many levels is put
+abbrev pub stack_room : ℕ → ℕ
+stack_room depth = max 1 (8 * depth)
 
 -- what is remembered means the visits of the functions' plan
 abbrev pub IsMeaningOf : Functions → VisitMeaning → Type 0

@@ -1,9 +1,11 @@
 ghost use Rattle.std.specs.Prelude.{◌≡◌, ◌≤◌, ℕ, length, Contains, IfOk};
 ghost use Rattle.lrc_machine.specs.Machine.{HaveRoom};
-ghost use Rattle.lrc_bodies.specs.Bodies.{HasRoom};
+ghost use Rattle.lrc_bodies.specs.Bodies.{HasRoom, stack_room};
 
 use crate::mark::Mark;
 use lrc_base::Memory;
+use lrc_base::limits::CHILD_LIMIT;
+use lrc_code::Handles;
 use lrc_eval::Val;
 use lrc_frames::Body;
 use lrc_functions::Functions;
@@ -12,10 +14,12 @@ use lrc_store::Handle;
 use std::alloc::Global;
 
 /// The frames and marks of the visits that run within one another: a visit with fuel n + 1 has those of
-/// number n. All their memory is taken when they are made.
+/// number n. Beside them there is the stack by which terms are put that are no higher than there are
+/// levels. All their memory is taken when they are made.
 #[derive(Debug, Drop)]
 pub struct Frames {
     pub levels: Levels<Vec<Val>, Mark>,
+    pub stack: Handles,
 }
 
 /// The greatest of some numbers, or 0.
@@ -45,9 +49,17 @@ fn no_mark() -> Mark {
     }
 }
 
+/// The room that a term of so many levels needs on a stack: at most `CHILD_LIMIT` handles for each, and
+/// one at least.
+fn stack_room(depth: u32) -> usize
+    ensures { result ≡ stack_room depth }
+{
+    (CHILD_LIMIT * depth as usize).max(1)
+}
+
 impl Frames {
-    /// Frames for visits of so many levels, from 1 to 1,000, each with room for the items of each
-    /// production of the plan.
+    /// Frames for visits of so many levels, each with room for the items of each production of the plan,
+    /// and a stack with room for terms of so many levels.
     ///
     /// # Errors
     ///
@@ -56,6 +68,7 @@ impl Frames {
         ensures frames { IfOk result (λ made. length made.levels.frames.items ≡ depth) }
         ensures marks { IfOk result (λ made. length made.levels.marks.items ≡ depth) }
         ensures rooms { IfOk result (λ made. HaveRoom (λ frame. HasRoom functions.now.counts frame.items) made.levels.frames.items) }
+        ensures stack { IfOk result (λ made. made.stack.room ≡ stack_room depth) }
     {
         let width = greatest(functions.counts.as_slice()) as usize;
         let mut frames = Vec::new(alloc);
@@ -63,8 +76,10 @@ impl Frames {
             frames.push(vec![in alloc; Val::Unset; width]?)?;
         }
         let marks = vec![in alloc; no_mark(); depth as usize]?;
+        let stack = Handles::with_room(alloc, stack_room(depth))?;
         Ok(Frames {
             levels: Levels { frames, marks },
+            stack,
         })
     }
 }

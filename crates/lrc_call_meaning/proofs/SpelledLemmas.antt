@@ -1,19 +1,24 @@
 -- Names, terms and expressions are spelled, part by part.
-use Rattle.std.proofs.Common.{◌≡◌, ◌⊎◌, inl, inr, ℕ, zero, suc, ◌+◌, ◌<◌, ◌≤◌, ℤ, Bool, List, [], ◌∷◌, length, map, refl, sym, ◌∙◌, ap, subst, arith, Some, Contains}
+use Rattle.std.proofs.Common.{◌≡◌, ◌⊎◌, inl, inr, ℕ, zero, suc, ◌+◌, ◌-◌, ◌<◌, ◌≤◌, ℤ, Bool, List, [], ◌∷◌, length, map, get_or, refl, sym, ◌∙◌, ap, subst, arith, Some, Contains}
 use Rattle.std.specs.Prelude.{slice_get}
 use Rattle.std.proofs.lemmas.Bool.{cases_lt}
+use Rattle.std.proofs.lemmas.List.{take-append-drop}
 use Rattle.std.proofs.lemmas.Option.{same_Some, slice_get_within}
 use Rattle.lrc_base.specs.Name.{IsName}
-use Rattle.lrc_base.specs.declared.term.Term.{Term}
-use Rattle.lrc_base.specs.declared.term.Term.TheVariants as v
+use Rattle.lrc_base.specs.declared.term.TermTree.{TermTree}
+use Rattle.lrc_base.specs.declared.item.TermItem.{TermItem}
+use Rattle.lrc_base.specs.declared.item.TermItem.TheVariants as i
+use Rattle.lrc_base.specs.Terms.{wanted, forest}
+use Rattle.lrc_base.proofs.ItemLemmas.{forest_none, forest_all}
 use Rattle.lrc_base.specs.declared.expr.Op.{Op}
 use Rattle.lrc_base.specs.declared.expr.Expr.{Expr}
 use Rattle.lrc_base.specs.declared.expr.Expr.TheVariants as w
-use Rattle.lrc_meaning.specs.Tree.{tree, row}
+use Rattle.lrc_meaning.specs.Tree.{Tree, tree, row}
 use Rattle.lrc_meaning.specs.Expression.{expression, expression_row}
-use Rattle.lrc_meaning.proofs.TreeLemmas.{tree-Int, tree-Bool, tree-Name, tree-Node}
 use Rattle.lrc_meaning.proofs.ExpressionLemmas.{expression-Int, expression-Bool, expression-Name, expression-Occ, expression-Leaf, expression-Op, expression-If, expression-Make}
 use Rattle.lrc_code.specs.Forms.{EachNameBelow}
+use Rattle.lrc_code.specs.Stack.{last_of, all_but}
+use Rattle.lrc_code.proofs.FlatLemmas.{Each, each-front, each-end, each-both, item_tree, trees_at, trees-next}
 use Rattle.lrc_call_meaning.specs.Spelled.{IsSpelledName, IsSpelled, AreLiteralsSpelled, AreAllLiteralsSpelled}
 
 not-zero : (bytes : List ℕ) (byte : ℕ) → ¬ Contains bytes 0 → Contains bytes byte → 1 ≤ byte
@@ -39,21 +44,42 @@ all-items P seen items n same all before i y e =
     let within = slice_get_within seen i y at in
     before i y (omega (arith, within, all)) at
 
-pub int-spelled : (t : Term) (i : ℤ) → t ≡ v.Int i → IsSpelled (tree t)
-int-spelled t i e = subst IsSpelled (sym (ap tree e ∙ tree-Int i)) tt
+-- ---- the trees that the items of a term make
 
-pub bool-spelled : (t : Term) (b : Bool) → t ≡ v.Bool b → IsSpelled (tree t)
-bool-spelled t b e = subst IsSpelled (sym (ap tree e ∙ tree-Bool b)) tt
+row-spelled : (kids : List Tree) → Each IsSpelled kids → EachNameBelow IsSpelledName (row kids)
+row-spelled [] h = tt
+row-spelled (kid ∷ kids) h = (h.0, row-spelled kids h.1)
 
-pub term-name-spelled : (t : Term) (bytes : List ℕ) → t ≡ v.Name bytes → IsSpelledName bytes → IsSpelled (tree t)
-term-name-spelled t bytes e h = subst IsSpelled (sym (ap tree e ∙ tree-Name bytes)) h
+-- those that an item takes, and those before them
+split-spelled : (n : ℕ) (ts : List Tree) → Each IsSpelled ts → Each IsSpelled (all_but n ts) × Each IsSpelled (last_of n ts)
+split-spelled n ts h =
+    let both = subst (Each IsSpelled) (sym (take-append-drop (length ts - n) ts)) h in
+    (each-front IsSpelled (all_but n ts) (last_of n ts) both, each-end IsSpelled (all_but n ts) (last_of n ts) both)
 
-kids-spelled : (kids : List Term) → ((i : ℕ) (kid : Term) → slice_get kids i ≡ Some kid → IsSpelled (tree kid)) → EachNameBelow IsSpelledName (row (map tree kids))
-kids-spelled [] h = tt
-kids-spelled (kid ∷ kids) h = (h 0 kid refl, kids-spelled kids (λ i. h (suc i)))
+item-spelled : (item : TermItem) (ts : List Tree) → ((bytes : List ℕ) → item ≡ i.Name bytes → IsSpelledName bytes) → Each IsSpelled ts → IsSpelled (item_tree item ts)
+item-spelled (i.Int x) ts named h = tt
+item-spelled (i.Bool b) ts named h = tt
+item-spelled (i.Name bytes) ts named h = named bytes refl
+item-spelled (i.Node p n) ts named h = row-spelled (last_of n ts) (split-spelled n ts h).1
 
-pub node-spelled : (t : Term) (p : ℕ) (kids : List Term) → t ≡ v.Node p kids → ((i : ℕ) (kid : Term) → slice_get kids i ≡ Some kid → IsSpelled (tree kid)) → IsSpelled (tree t)
-node-spelled t p kids e h = subst IsSpelled (sym (ap tree e ∙ tree-Node p kids)) (kids-spelled kids h)
+-- an item that is a name is this name alone
+pub only-name : (item : TermItem) (found bytes : List ℕ) → item ≡ i.Name found → item ≡ i.Name bytes → IsSpelledName found → IsSpelledName bytes
+only-name item found bytes e f h = let same : found ≡ bytes = cc in subst IsSpelledName same h
+
+pub next-spelled : (items : List TermItem) (k : ℕ) (item : TermItem) → k < length items → item ≡ get_or items k item → ((bytes : List ℕ) → item ≡ i.Name bytes → IsSpelledName bytes) →
+    Each IsSpelled (trees_at items k) → Each IsSpelled (trees_at items (k + 1))
+next-spelled items k item there is named h =
+    let ts = trees_at items k in
+    subst (Each IsSpelled) (sym (trees-next items k item there is))
+    (each-both IsSpelled (all_but (wanted item) ts) (item_tree item ts ∷ []) (split-spelled (wanted item) ts h).0 (item-spelled item ts named h, tt))
+
+pub none-spelled : (items : List TermItem) → Each IsSpelled (trees_at items 0)
+none-spelled items = subst (λ us. Each IsSpelled (map tree us)) (sym forest_none) tt
+
+pub all-spelled : (items seen : List TermItem) (k : ℕ) (term : TermTree) → seen ≡ items → forest items ≡ term ∷ [] → length seen ≤ k → Each IsSpelled (trees_at seen k) → IsSpelled (tree term)
+all-spelled items seen k term same e all h = (subst (λ us. Each IsSpelled (map tree us)) (forest_all seen k all ∙ ap forest same ∙ e) h).0
+
+-- ---- expressions
 
 pub literal-int : (x : Expr) (i : ℤ) → x ≡ w.Int i → AreLiteralsSpelled (expression x)
 literal-int x i e = subst AreLiteralsSpelled (sym (ap expression e ∙ expression-Int i)) tt

@@ -3,7 +3,7 @@ ghost use Rattle.lrc_meaning.specs.Tree.{tree};
 ghost use Rattle.lrc_meaning.specs.Expression.{expression};
 ghost use Rattle.lrc_call_meaning.specs.Spelled.{IsSpelledName, IsSpelled, AreLiteralsSpelled};
 
-use lrc_base::{Expr, NameText, Term};
+use lrc_base::{Expr, NameText, Term, TermItem};
 
 /// A name is not empty, and its bytes are from 1 to 255: its type says so.
 pub fn name_is_spelled(name: &NameText)
@@ -22,14 +22,9 @@ fn are_below_256(bytes: &[u8])
 pub fn term_is_spelled(term: &Term)
     ensures { IsSpelled (tree term.now) }
 {
-    match term {
-        Term::Int(_) => {}
-        Term::Bool(_) => {}
-        Term::Name(name) => name_is_spelled(name.get()),
-        Term::Node(_, kids) => {
-            for kid in kids.as_slice() {
-                term_is_spelled(kid);
-            }
+    for item in term.items().as_slice() {
+        if let TermItem::Name(name) = item {
+            name_is_spelled(name);
         }
     }
 }

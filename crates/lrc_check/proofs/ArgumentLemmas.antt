@@ -6,7 +6,7 @@ use Rattle.std.proofs.lemmas.Grind.{common_steps}
 use Rattle.lrc_base.specs.declared.raw.RawKind.{RawKind}
 use Rattle.lrc_base.specs.declared.raw.RawKid.{RawKid}
 use Rattle.lrc_base.specs.declared.raw.RawExpr.{RawExpr}
-use Rattle.lrc_grammar.proofs.FittingLemmas.{next_left, and_false}
+use Rattle.lrc_grammar.proofs.ListLemmas.{next_left, and_false}
 use Rattle.lrc_fault_meaning.specs.Faults.{Fault, Found, of_kind, is_right, are_right}
 use Rattle.lrc_check.specs.declared.fault.GrammarFault.{GrammarFault}
 use Rattle.lrc_check.specs.Verdict.{verdict, is_of_kind}

@@ -5,7 +5,7 @@ use Rattle.std.specs.Prelude.{option_map}
 use Rattle.std.specs.Str.{bytes_eq}
 use Rattle.std.proofs.lemmas.List.Folds.{list_any-append}
 use Rattle.std.proofs.Math.Seq.{take-suc}
-use Rattle.lrc_grammar.proofs.FittingLemmas.{next_left}
+use Rattle.lrc_grammar.proofs.ListLemmas.{next_left}
 use Rattle.lrc_fault_meaning.specs.Faults.{Name, Fault, each_after, is_among, first}
 use Rattle.lrc_check.specs.declared.fault.GrammarFault.{GrammarFault}
 use Rattle.lrc_check.specs.Verdict.{verdict, answered}

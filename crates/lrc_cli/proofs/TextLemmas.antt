@@ -8,7 +8,7 @@ use Rattle.lrc_meaning.specs.Editing.{Reply, values, bad_path, wrong_sort, too_d
 use Rattle.lrc_meaning.specs.Text as text
 use Rattle.lrc_meaning.specs.Text.{line_feed, run_text}
 use Rattle.lrc_meaning.specs.Grammar.{Grammar}
-use Rattle.lrc_grammar.proofs.FittingLemmas.{next_left}
+use Rattle.lrc_grammar.proofs.ListLemmas.{next_left}
 use Rattle.lrc_store.specs.Standing.{Standing}
 use Rattle.lrc_store.specs.declared.cells.Handle.{Handle}
 use Rattle.lrc_run.specs.declared.reply.Line.{Line}

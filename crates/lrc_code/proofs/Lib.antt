@@ -1,5 +1,7 @@
 pub mod Growing
 pub mod Words
-pub mod Kids
+pub mod StackLemmas
 pub mod Decoding
 pub mod Reading
+pub mod FlatLemmas
+pub mod TurnLemmas

@@ -1,8 +1,11 @@
 -- The cells that stand for values, lists, calls of visits and their results.
-use Rattle.std.specs.Prelude.{ℕ, zero, suc, ◌+◌, ◌<◌, ◌≤◌, ℤ, pos, Bool, true, false, ◌&&◌, nat_lt, List, [], ◌∷◌, ◌++◌, length, take, drop, replicate, Contains}
+use Rattle.std.specs.Prelude.{ℕ, zero, suc, ◌+◌, ◌<◌, ◌≤◌, ℤ, pos, Bool, true, false, ◌&&◌, nat_lt, nat_le, List, [], ◌∷◌, ◌++◌, length, take, drop, replicate, Contains}
 use Rattle.std.specs.Int.{div_ceil, from_le_bytes, cast_signed, w64}
+use Rattle.lrc_base.specs.declared.item.TermItem.{TermItem}
+use Rattle.lrc_base.specs.declared.item.TermItem.TheVariants as i
 use Rattle.lrc_store.specs.Cells.{CellTree, nil, number, pair}
-use Rattle.lrc_meaning.specs.Tree.{Tree, Trees, int, bool, name, node, none, more}
+use Rattle.lrc_meaning.specs.Tree.{Tree, Trees, int, bool, name, node, none, more, in_order}
+use Rattle.lrc_code.specs.Stack.{last_of}
 
 -- an item before a list
 abbrev pub more_cell : CellTree → CellTree → CellTree
@@ -47,6 +50,13 @@ abbrev mutual
   kid_cells none = []
   kid_cells (more t ts) = tree_cell t ∷ kid_cells ts
 
+-- an item of a flat term, over the cells of the trees before it
+abbrev pub item_cell : TermItem → List CellTree → CellTree
+item_cell (i.Int z) cells = number z
+item_cell (i.Bool b) cells = truth_cell b
+item_cell (i.Name bytes) cells = name_cell bytes
+item_cell (i.Node production n) cells = node_cell production (list_cell (last_of n cells))
+
 -- the call of a visit of a tree, with the list of inherited values, and the list of bindings of earlier visits
 abbrev pub call_cell : CellTree → ℕ → CellTree → CellTree → CellTree
 call_cell tree visit inherited bindings = pair (32 + visit) tree (pair 5 inherited bindings)
@@ -66,6 +76,18 @@ abbrev mutual
   pub are_kids_below : ℕ → Trees → Bool
   are_kids_below limit none = true
   are_kids_below limit (more t ts) = are_productions_below limit t && are_kids_below limit ts
+
+-- each node in the tree has at most so many children
+abbrev mutual
+  pub are_kids_few : ℕ → Tree → Bool
+  are_kids_few most (int i) = true
+  are_kids_few most (bool b) = true
+  are_kids_few most (name bytes) = true
+  are_kids_few most (node production kids) = nat_le (length (in_order kids)) most && are_all_few most kids
+
+  pub are_all_few : ℕ → Trees → Bool
+  are_all_few most none = true
+  are_all_few most (more t ts) = are_kids_few most t && are_all_few most ts
 
 -- the bytes of a name: from 1 to 255
 abbrev pub IsSpelling : List ℕ → Type 0

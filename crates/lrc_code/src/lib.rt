@@ -3,6 +3,7 @@
 #![tactic(auto)]
 
 mod calls;
+mod handles;
 mod laws;
 mod lists;
 mod names;
@@ -10,6 +11,7 @@ mod pairs;
 mod terms;
 
 pub use calls::{CallParts, ResultParts, call_parts, put_call, put_result, result_parts};
+pub use handles::Handles;
 pub use laws::forms_are_injective;
 pub use lists::{item_of, put_list};
 pub use names::put_name;

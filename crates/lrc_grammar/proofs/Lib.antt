@@ -1,2 +1,2 @@
-pub mod FittingLemmas
+pub mod ListLemmas
 pub mod SignatureLemmas

@@ -18,7 +18,7 @@ use Rattle.lrc_meaning.specs.Signature.{left_attribute, symbol_attribute, kid_at
 use Rattle.lrc_meaning.proofs.SignatureLemmas.{signed_few}
 use Rattle.lrc_base.specs.declared.limits.TheConstants.{ATTRIBUTE_LIMIT, CHILD_LIMIT, LOCAL_LIMIT}
 use Rattle.lrc_meaning.specs.Limits.{IsFew}
-use Rattle.lrc_grammar.proofs.FittingLemmas.{next_left}
+use Rattle.lrc_grammar.proofs.ListLemmas.{next_left}
 
 pub next_signed_kids : (sorts : List Sort) (at n : ℕ) (kids : List Kid) (i : ℕ) (kid : Kid) → i < length kids → kid ≡ get_or kids i kid
     → signed_kids sorts at n (drop i kids)

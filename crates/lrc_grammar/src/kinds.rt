@@ -1,5 +1,5 @@
 ghost use Rattle.std.specs.Prelude.{◌≡◌};
-ghost use Rattle.lrc_meaning.specs.Tree.{is_sort};
+ghost use Rattle.lrc_meaning.specs.Tree.{is_sort, same_kind};
 
 use lrc_base::Kind;
 
@@ -11,4 +11,11 @@ pub fn is_sort(kind: Kind) -> bool
         Kind::Int | Kind::Bool | Kind::Name => false,
         Kind::Sort(_) => true,
     }
+}
+
+/// Whether the two kinds are one.
+pub fn same_kind(a: Kind, b: Kind) -> bool
+    ensures { result ≡ same_kind a b }
+{
+    a == b
 }

@@ -3,13 +3,11 @@
 
 mod attributes;
 mod copies;
-mod fitting;
 mod grammar;
 mod kinds;
 mod signature;
 
 pub use attributes::attrs_of_sort;
-pub use fitting::{is_within, same_kind};
 pub use grammar::Grammar;
-pub use kinds::is_sort;
+pub use kinds::{is_sort, same_kind};
 pub use signature::occurrences_and_symbols;

@@ -3,7 +3,7 @@ use Rattle.std.proofs.Common.{◌≡◌, ℕ, Bool, true, false, cond, List, [],
 use Rattle.lrc_base.specs.declared.grammar.Kind.{Kind}
 use Rattle.lrc_base.specs.declared.grammar.Kind.TheVariants as k
 use Rattle.lrc_base.specs.declared.grammar.Production.{Production}
-use Rattle.lrc_base.specs.declared.raw.RawTerm.{RawTerm}
+use Rattle.lrc_base.specs.declared.raw_term.RawTermTree.{RawTermTree}
 use Rattle.lrc_base.specs.declared.job.RawEdit.{RawEdit}
 use Rattle.lrc_base.specs.declared.job.RawEdit.TheVariants as raw
 use Rattle.lrc_base.specs.declared.job.RawScript.{RawScript}
@@ -21,7 +21,7 @@ use Rattle.lrc_job.specs.Job.{Session, next, term_at, put_of, change_of, changes
 use Rattle.lrc_job.specs.Laws.{IsChangeOf, AreChangesOf, IsSessionOf}
 
 module _ (prods : List Production) where
-  put_found : (s e : ℕ) (steps : List ℕ) (term : RawTerm) (c : Change) (r : Result Tree TermFault) → resolved prods term ≡ r → map_ok (λ t. put_of steps t (kind_of prods t)) (term_at s e r) ≡ Ok c →
+  put_found : (s e : ℕ) (steps : List ℕ) (term : RawTermTree) (c : Change) (r : Result Tree TermFault) → resolved prods term ≡ r → map_ok (λ t. put_of steps t (kind_of prods t)) (term_at s e r) ≡ Ok c →
       (kind : Kind) × (t : Tree) × NamesFitting prods term t kind × (c ≡ put steps kind t)
   put_found s e steps term c (Err f) is h = absurd (cc)
   put_found s e steps term c (Ok t) is h =

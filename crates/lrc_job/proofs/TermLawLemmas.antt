@@ -10,8 +10,8 @@ use Rattle.lrc_base.specs.declared.grammar.Kind.{Kind}
 use Rattle.lrc_base.specs.declared.grammar.Kind.TheVariants as k
 use Rattle.lrc_base.specs.declared.grammar.Kid.{Kid}
 use Rattle.lrc_base.specs.declared.grammar.Production.{Production}
-use Rattle.lrc_base.specs.declared.raw.RawTerm.{RawTerm, RawTerm-F, ind-RawTerm, roll-RawTerm}
-use Rattle.lrc_base.specs.declared.raw.RawTerm.TheVariants as v
+use Rattle.lrc_base.specs.declared.raw_term.RawTermTree.{RawTermTree, RawTermTree-F, ind-RawTermTree, roll-RawTermTree}
+use Rattle.lrc_base.specs.declared.raw_term.RawTermTree.TheVariants as v
 use Rattle.lrc_meaning.specs.Tree.{Tree, int, bool, name, node, none, more, row, same_kind, kids_of, is_left, fits, each_fits, kind_of}
 use Rattle.lrc_meaning.specs.Naming.{each_some, production_number, named_tree}
 use Rattle.lrc_meaning.proofs.KindLemmas.{own_kind, one_kind}
@@ -24,31 +24,31 @@ use Rattle.lrc_job.proofs.ResolvedLemmas.{resolved_Int, resolved_Bool, resolved_
 
 -- ---- induction, variant by variant
 
-module _ (P : RawTerm → Type 0) where
-  abbrev pub Every : List RawTerm → Type 0
+module _ (P : RawTermTree → Type 0) where
+  abbrev pub Every : List RawTermTree → Type 0
   Every [] = Unit {0}
   Every (x ∷ xs) = P x × Every xs
 
   abbrev Proved : Type 0
-  Proved = (x : RawTerm) × P x
+  Proved = (x : RawTermTree) × P x
 
   every_proved : (kids : List Proved) → Every (map (λ (x : Proved). x.0) kids)
   every_proved [] = tt
   every_proved (x ∷ kids) = (x.1, every_proved kids)
 
-  module _ (at_int : (i : ℤ) → P (v.Int i)) (at_bool : (b : Bool) → P (v.Bool b)) (at_name : (n : List ℕ) → P (v.Name n)) (at_node : (n : List ℕ) (kids : List RawTerm) → Every kids → P (v.Node n kids)) where
-    of_layer : (y : RawTerm-F Proved) → P (roll-RawTerm (Rattle.lrc_base.specs.declared.raw.RawTerm.map-RawTerm Proved RawTerm (λ x. x.0) y))
-    of_layer (RawTerm-F.Int i) = subst P (sym (v.rolls-Int i)) (at_int i)
-    of_layer (RawTerm-F.Bool b) = subst P (sym (v.rolls-Bool b)) (at_bool b)
-    of_layer (RawTerm-F.Name n) = subst P (sym (v.rolls-Name n)) (at_name n)
-    of_layer (RawTerm-F.Node n kids) = subst P (sym (v.rolls-Node n (map (λ (x : Proved). x.0) kids))) (at_node n (map (λ (x : Proved). x.0) kids) (every_proved kids))
+  module _ (at_int : (i : ℤ) → P (v.Int i)) (at_bool : (b : Bool) → P (v.Bool b)) (at_name : (n : List ℕ) → P (v.Name n)) (at_node : (n : List ℕ) (kids : List RawTermTree) → Every kids → P (v.Node n kids)) where
+    of_layer : (y : RawTermTree-F Proved) → P (roll-RawTermTree (Rattle.lrc_base.specs.declared.raw_term.RawTermTree.map-RawTermTree Proved RawTermTree (λ x. x.0) y))
+    of_layer (RawTermTree-F.Int i) = subst P (sym (v.rolls-Int i)) (at_int i)
+    of_layer (RawTermTree-F.Bool b) = subst P (sym (v.rolls-Bool b)) (at_bool b)
+    of_layer (RawTermTree-F.Name n) = subst P (sym (v.rolls-Name n)) (at_name n)
+    of_layer (RawTermTree-F.Node n kids) = subst P (sym (v.rolls-Node n (map (λ (x : Proved). x.0) kids))) (at_node n (map (λ (x : Proved). x.0) kids) (every_proved kids))
 
-    pub by_variant : (x : RawTerm) → P x
-    by_variant = ind-RawTerm P (λ x y is. subst (λ z. P (roll-RawTerm z)) is (of_layer y))
+    pub by_variant : (x : RawTermTree) → P x
+    by_variant = ind-RawTermTree P (λ x y is. subst (λ z. P (roll-RawTermTree z)) is (of_layer y))
 
 -- ---- kinds, and productions by number
 
-pub number_same : (m n : ℕ) → m ≡ n → nat_eq m n ≡ true
+number_same : (m n : ℕ) → m ≡ n → nat_eq m n ≡ true
 number_same m n e = grind (arith, nat_tests)
 
 placed : (b : Bool) (m n i : ℕ) → nat_lt m n ≡ b → cond b (Some m) None ≡ Some i → i < n
@@ -67,7 +67,7 @@ one_there (x ∷ xs) (suc i) lt = one_there xs i (omega arith)
 -- ---- what is found is named and fits
 
 module _ (prods : List Production) where
-  abbrev pub Found : RawTerm → Type 0
+  abbrev pub Found : RawTermTree → Type 0
   Found raw = (t : Tree) → resolved prods raw ≡ Ok t → (kind : Kind) × (kind_of prods t ≡ Some kind) × NamesFitting prods raw t kind
 
   -- each of the trees fits its kind
@@ -75,7 +75,7 @@ module _ (prods : List Production) where
   HaveKinds [] = Unit {0}
   HaveKinds (t ∷ ts) = ((kind : Kind) × (kind_of prods t ≡ Some kind) × IsTrue (fits prods t kind)) × HaveKinds ts
 
-  each_found : (kids : List RawTerm) → Every Found kids → (ts : List Tree) → each_ok (map (resolved prods) kids) ≡ Ok ts →
+  each_found : (kids : List RawTermTree) → Every Found kids → (ts : List Tree) → each_ok (map (resolved prods) kids) ≡ Ok ts →
       (each_some (map (named_tree prods) kids) ≡ Some ts) × HaveKinds ts
   each_found [] every ts e = let same : [] ≡ ts = cc in (ap Some same, subst HaveKinds same tt)
   each_found (x ∷ kids) every ts e =
@@ -107,7 +107,7 @@ module _ (prods : List Production) where
           ap (λ b. b && each_fits prods (row ts) kids) fitting ∙ again h
       by again false same h = absurd (cc)
 
-  node_found : (n : List ℕ) (kids : List RawTerm) → Every Found kids → Found (v.Node n kids)
+  node_found : (n : List ℕ) (kids : List RawTermTree) → Every Found kids → Found (v.Node n kids)
   node_found n kids every t e =
       by (production_number prods n) refl (each_ok (map (resolved prods) kids)) refl (sym (resolved_Node prods n kids) ∙ e)
     where
@@ -150,12 +150,12 @@ module _ (prods : List Production) where
       by (Some p) number (Err f) all h = absurd (cc)
       by (Some p) number (Ok ts) all h = counted p ts (nat_eq (length ts) (length (kids_of prods p))) number all refl h
 
-  leaf_found : (raw : RawTerm) (u : Tree) (kind : Kind) → resolved prods raw ≡ Ok u → named_tree prods raw ≡ Some u → kind_of prods u ≡ Some kind → fits prods u kind ≡ true → Found raw
+  leaf_found : (raw : RawTermTree) (u : Tree) (kind : Kind) → resolved prods raw ≡ Ok u → named_tree prods raw ≡ Some u → kind_of prods u ≡ Some kind → fits prods u kind ≡ true → Found raw
   leaf_found raw u kind is named of_kind fitting t e =
       let same : u ≡ t = cc in
       subst (λ w. (kind' : Kind) × (kind_of prods w ≡ Some kind') × NamesFitting prods raw w kind') same (kind, of_kind, record { named = named; fitting = fitting })
 
-  pub found_fits : (raw : RawTerm) → Found raw
+  pub found_fits : (raw : RawTermTree) → Found raw
   found_fits =
       by_variant Found
       (λ i. leaf_found (v.Int i) (int i) k.Int (resolved_Int prods i) (named_tree-Int prods i) refl refl)
@@ -166,15 +166,15 @@ module _ (prods : List Production) where
 -- ---- what is named and fits is found
 
 module _ (prods : List Production) where
-  abbrev pub Fitting : RawTerm → Type 0
+  abbrev pub Fitting : RawTermTree → Type 0
   Fitting raw = (t : Tree) (kind : Kind) → NamesFitting prods raw t kind → (resolved prods raw ≡ Ok t) × (kind_of prods t ≡ Some kind)
 
-  pub record EachFound (kids : List RawTerm) (ts : List Tree) (i : ℕ) (needed : List Kid) : Type 0 where
+  pub record EachFound (kids : List RawTermTree) (ts : List Tree) (i : ℕ) (needed : List Kid) : Type 0 where
     pub all : each_ok (map (resolved prods) kids) ≡ Ok ts
     pub many : length ts ≡ length needed
     pub like : first_unlike prods i ts needed ≡ None
 
-  each_fitting : (kids : List RawTerm) → Every Fitting kids → (ts : List Tree) (i : ℕ) (needed : List Kid) → each_some (map (named_tree prods) kids) ≡ Some ts → each_fits prods (row ts) needed ≡ true →
+  each_fitting : (kids : List RawTermTree) → Every Fitting kids → (ts : List Tree) (i : ℕ) (needed : List Kid) → each_some (map (named_tree prods) kids) ≡ Some ts → each_fits prods (row ts) needed ≡ true →
       EachFound kids ts i needed
   each_fitting [] every ts i needed e f =
       let same : [] ≡ ts = cc in
@@ -207,7 +207,7 @@ module _ (prods : List Production) where
           let same : u ∷ us ≡ ts = cc in
           subst (λ ws. each_fits prods (row ws) needed ≡ true → EachFound (x ∷ kids) ws i needed) same (here again u us needed first rest) f
 
-  node_fitting : (n : List ℕ) (kids : List RawTerm) → Every Fitting kids → Fitting (v.Node n kids)
+  node_fitting : (n : List ℕ) (kids : List RawTermTree) → Every Fitting kids → Fitting (v.Node n kids)
   node_fitting n kids every t kind are =
       by (production_number prods n) refl (each_some (map (named_tree prods) kids)) refl (sym (named_tree-Node prods n kids) ∙ are.named)
     where
@@ -236,13 +236,13 @@ module _ (prods : List Production) where
           subst (λ u. (resolved prods (v.Node n kids) ≡ Ok u) × (kind_of prods u ≡ Some kind)) same
           (made p ts there.0 number all there.1 (subst (λ u. fits prods u kind ≡ true) (sym same) are.fitting))
 
-  leaf_fitting : (raw : RawTerm) (u : Tree) (own : Kind) → resolved prods raw ≡ Ok u → named_tree prods raw ≡ Some u → kind_of prods u ≡ Some own → ((kind : Kind) → fits prods u kind ≡ same_kind own kind) → Fitting raw
+  leaf_fitting : (raw : RawTermTree) (u : Tree) (own : Kind) → resolved prods raw ≡ Ok u → named_tree prods raw ≡ Some u → kind_of prods u ≡ Some own → ((kind : Kind) → fits prods u kind ≡ same_kind own kind) → Fitting raw
   leaf_fitting raw u own is named of_kind fitting t kind are =
       let same : u ≡ t = let h = are.named in cc in
       let one : own ≡ kind = one_kind own kind (sym (fitting kind) ∙ subst (λ w. fits prods w kind ≡ true) (sym same) are.fitting) in
       (is ∙ ap Ok same, subst (λ w. kind_of prods w ≡ Some kind) same (of_kind ∙ ap Some one))
 
-  pub fitting_is_found : (raw : RawTerm) → Fitting raw
+  pub fitting_is_found : (raw : RawTermTree) → Fitting raw
   fitting_is_found =
       by_variant Fitting
       (λ i. leaf_fitting (v.Int i) (int i) k.Int (resolved_Int prods i) (named_tree-Int prods i) refl (λ kind. refl))
@@ -252,11 +252,3 @@ module _ (prods : List Production) where
 
 pub both_ways : FoundFits × FittingIsFound
 both_ways = (found_fits, λ prods raw t kind are. fitting_is_found prods raw t kind are)
-
--- a node over trees that are right
-pub node_right : (prods : List Production) (n : List ℕ) (p : ℕ) (ts : List Tree) (kids : List Kid) → Some p ≡ production_number prods n → kids ≡ kids_of prods p → length ts ≡ length kids → None ≡ first_unlike prods 0 ts kids →
-    node_of prods n (production_number prods n) ts ≡ Ok (node p (row ts))
-node_right prods n p ts kids number same many like =
-    ap (λ o. node_of prods n o ts) (sym number)
-    ∙ (ap (λ b. cond b (unless_unlike n p ts (first_unlike prods 0 ts (kids_of prods p))) (Err (fault.Arity n))) (number_same (length ts) (length (kids_of prods p)) (many ∙ ap length same))
-    ∙ ap (unless_unlike n p ts) (ap (first_unlike prods 0 ts) (sym same) ∙ sym like))

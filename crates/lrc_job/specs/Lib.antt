@@ -1,4 +1,5 @@
 pub mod Resolved
+pub mod Found
 pub mod TermLaws
 pub mod Fitting
 pub mod Job

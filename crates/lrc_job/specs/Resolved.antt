@@ -1,13 +1,13 @@
 -- A term as it is written: the tree that it is over a grammar's productions, or its first node at fault. Children are
 -- examined before their node, from left to right.
-use Rattle.std.specs.Prelude.{◌≡◌, ◌≢◌, ℕ, suc, Bool, false, List, [], ◌∷◌, length, map, Option, Some, None, Result, Ok, Err, MatchResult, nat_eq, cond}
+use Rattle.std.specs.Prelude.{◌≡◌, ◌≢◌, ℕ, suc, Bool, false, List, [], ◌∷◌, length, Option, Some, None, Result, Ok, Err, MatchResult, nat_eq, cond}
 use Rattle.lrc_base.specs.declared.grammar.Kind.{Kind}
 use Rattle.lrc_base.specs.declared.grammar.Kid.{Kid}
 use Rattle.lrc_base.specs.declared.grammar.Production.{Production}
-use Rattle.lrc_base.specs.declared.term.Term.{Term}
-use Rattle.lrc_base.specs.declared.raw.RawTerm.{RawTerm}
-use Rattle.lrc_base.specs.declared.raw.RawTerm.TheOpen.{RawTerm-F}
-use Rattle.lrc_base.specs.declared.raw.RawTerm.TheFolds.{fold-RawTerm}
+use Rattle.lrc_base.specs.declared.term.TermTree.{TermTree}
+use Rattle.lrc_base.specs.declared.raw_term.RawTermTree.{RawTermTree}
+use Rattle.lrc_base.specs.declared.raw_term.RawTermTree.TheOpen.{RawTermTree-F}
+use Rattle.lrc_base.specs.declared.raw_term.RawTermTree.TheFolds.{fold-RawTermTree}
 use Rattle.lrc_meaning.specs.Tree.{Tree, int, bool, name, node, row, tree, same_kind, kids_of, kind_of}
 use Rattle.lrc_meaning.specs.Naming.{production_number}
 use Rattle.lrc_job.specs.declared.term_fault.TermFault.{TermFault}
@@ -49,23 +49,16 @@ node_of prods n (Some p) ts =
     cond (nat_eq (length ts) (length (kids_of prods p))) (unless_unlike n p ts (first_unlike prods 0 ts (kids_of prods p))) (Err (fault.Arity n))
 
 -- one node, with what its children are in their places
-abbrev pub resolved_step : List Production → RawTerm-F (Result Tree TermFault) → Result Tree TermFault
-resolved_step prods (RawTerm-F.Int i) = Ok (int i)
-resolved_step prods (RawTerm-F.Bool b) = Ok (bool b)
-resolved_step prods (RawTerm-F.Name n) = Ok (name n)
-resolved_step prods (RawTerm-F.Node n kids) = and_then (node_of prods n (production_number prods n)) (each_ok kids)
+abbrev pub resolved_step : List Production → RawTermTree-F (Result Tree TermFault) → Result Tree TermFault
+resolved_step prods (RawTermTree-F.Int i) = Ok (int i)
+resolved_step prods (RawTermTree-F.Bool b) = Ok (bool b)
+resolved_step prods (RawTermTree-F.Name n) = Ok (name n)
+resolved_step prods (RawTermTree-F.Node n kids) = and_then (node_of prods n (production_number prods n)) (each_ok kids)
 
-unfoldable pub resolved : List Production → RawTerm → Result Tree TermFault
-resolved prods = fold-RawTerm (Result Tree TermFault) (resolved_step prods)
-
--- a term is what was found, and a fault too, but for want of memory
-abbrev pub IsTerm : Result Tree TermFault → Result Term TermFault → Type 0
-IsTerm found r = MatchResult r (λ t. found ≡ Ok (tree t)) (λ f. f ≢ fault.Memory → found ≡ Err f)
-
-abbrev pub AreTerms : Result (List Tree) TermFault → Result (List Term) TermFault → Type 0
-AreTerms found r = MatchResult r (λ ts. found ≡ Ok (map tree ts)) (λ f. f ≢ fault.Memory → found ≡ Err f)
+unfoldable pub resolved : List Production → RawTermTree → Result Tree TermFault
+resolved prods = fold-RawTermTree (Result Tree TermFault) (resolved_step prods)
 
 -- the term with its kind
-abbrev pub IsResolved : List Production → Result Tree TermFault → Result (Kind × Term) TermFault → Type 0
+abbrev pub IsResolved : List Production → Result Tree TermFault → Result (Kind × TermTree) TermFault → Type 0
 IsResolved prods found r =
     MatchResult r (λ t. (found ≡ Ok (tree t.1)) × (kind_of prods (tree t.1) ≡ Some t.0)) (λ f. f ≢ fault.Memory → found ≡ Err f)

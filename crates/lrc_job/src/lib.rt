@@ -4,6 +4,7 @@
 
 mod edits;
 mod fault;
+mod found;
 mod job;
 mod kinds;
 mod laws;
@@ -15,7 +16,6 @@ mod terms;
 
 pub use fault::AcceptFault;
 pub use job::{Accepted, accept};
-pub use kinds::kind_of;
 pub use laws::sessions_exactly_where_fitting;
 pub use term::resolve;
 pub use term_fault::TermFault;

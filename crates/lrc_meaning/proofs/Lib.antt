@@ -7,3 +7,5 @@ pub mod KindLemmas
 pub mod EditLemmas
 pub mod SignatureLemmas
 pub mod NamedLemmas
+pub mod HeightLemmas
+pub mod ItemLemmas

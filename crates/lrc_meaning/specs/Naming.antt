@@ -27,9 +27,9 @@ use Rattle.lrc_base.specs.declared.raw.RawGrammar.{RawGrammar}
 use Rattle.lrc_base.specs.declared.raw.RawExpr.{RawExpr}
 use Rattle.lrc_base.specs.declared.raw.RawExpr.TheOpen.{RawExpr-F}
 use Rattle.lrc_base.specs.declared.raw.RawExpr.TheFolds.{fold-RawExpr}
-use Rattle.lrc_base.specs.declared.raw.RawTerm.{RawTerm}
-use Rattle.lrc_base.specs.declared.raw.RawTerm.TheOpen.{RawTerm-F}
-use Rattle.lrc_base.specs.declared.raw.RawTerm.TheFolds.{fold-RawTerm}
+use Rattle.lrc_base.specs.declared.raw_term.RawTermTree.{RawTermTree}
+use Rattle.lrc_base.specs.declared.raw_term.RawTermTree.TheOpen.{RawTermTree-F}
+use Rattle.lrc_base.specs.declared.raw_term.RawTermTree.TheFolds.{fold-RawTermTree}
 use Rattle.lrc_meaning.specs.Tree.{Tree, int, bool, name, node, row, is_sort}
 use Rattle.lrc_meaning.specs.Grammar.{Grammar}
 use Rattle.lrc_meaning.specs.Signature.{signed_occurrences, signature_of}
@@ -195,13 +195,13 @@ named_grammar raw =
 abbrev pub production_number : List Production → List ℕ → Option ℕ
 production_number prods n = position (λ (p : Production). bytes_eq p.name n) prods
 
-abbrev pub named_tree_step : List Production → RawTerm-F (Option Tree) → Option Tree
-named_tree_step prods (RawTerm-F.Int i) = Some (int i)
-named_tree_step prods (RawTerm-F.Bool b) = Some (bool b)
-named_tree_step prods (RawTerm-F.Name n) = Some (name n)
-named_tree_step prods (RawTerm-F.Node n kids) =
+abbrev pub named_tree_step : List Production → RawTermTree-F (Option Tree) → Option Tree
+named_tree_step prods (RawTermTree-F.Int i) = Some (int i)
+named_tree_step prods (RawTermTree-F.Bool b) = Some (bool b)
+named_tree_step prods (RawTermTree-F.Name n) = Some (name n)
+named_tree_step prods (RawTermTree-F.Node n kids) =
     option_and_then (λ p. option_map (λ ts. node p (row ts)) (each_some kids)) (production_number prods n)
 
 -- the tree that is written, by numbers; none where a production's name is unknown
-unfoldable pub named_tree : List Production → RawTerm → Option Tree
-named_tree prods = fold-RawTerm (Option Tree) (named_tree_step prods)
+unfoldable pub named_tree : List Production → RawTermTree → Option Tree
+named_tree prods = fold-RawTermTree (Option Tree) (named_tree_step prods)

@@ -6,9 +6,9 @@ use Rattle.lrc_base.specs.declared.grammar.Kind.{Kind}
 use Rattle.lrc_base.specs.declared.grammar.Kind.TheVariants as k
 use Rattle.lrc_base.specs.declared.grammar.Kid.{Kid}
 use Rattle.lrc_base.specs.declared.grammar.Production.{Production}
-use Rattle.lrc_base.specs.declared.term.Term.{Term}
-use Rattle.lrc_base.specs.declared.term.Term.TheOpen.{Term-F}
-use Rattle.lrc_base.specs.declared.term.Term.TheFolds.{fold-Term}
+use Rattle.lrc_base.specs.declared.term.TermTree.{TermTree}
+use Rattle.lrc_base.specs.declared.term.TermTree.TheOpen.{TermTree-F}
+use Rattle.lrc_base.specs.declared.term.TermTree.TheFolds.{fold-TermTree}
 
 -- A tree: a leaf, or a production by its number with its children.
 mutual
@@ -33,15 +33,15 @@ in_order none = []
 in_order (more t ts) = t ∷ in_order ts
 
 -- one node, with the trees of its children in their places
-abbrev pub tree_step : Term-F Tree → Tree
-tree_step (Term-F.Int i) = int i
-tree_step (Term-F.Bool b) = bool b
-tree_step (Term-F.Name n) = name n
-tree_step (Term-F.Node p kids) = node p (row kids)
+abbrev pub tree_step : TermTree-F Tree → Tree
+tree_step (TermTree-F.Int i) = int i
+tree_step (TermTree-F.Bool b) = bool b
+tree_step (TermTree-F.Name n) = name n
+tree_step (TermTree-F.Node p kids) = node p (row kids)
 
 -- the tree that a term is
-unfoldable pub tree : Term → Tree
-tree = fold-Term Tree tree_step
+unfoldable pub tree : TermTree → Tree
+tree = fold-TermTree Tree tree_step
 
 abbrev pub same_kind : Kind → Kind → Bool
 same_kind k.Int k.Int = true

@@ -7,8 +7,8 @@ use Rattle.lrc_base.specs.declared.expr.Expr.{Expr}
 use Rattle.lrc_base.specs.declared.expr.Expr.TheVariants as e
 use Rattle.lrc_base.specs.declared.raw.RawExpr.{RawExpr, RawExpr-F, fold-roll-RawExpr}
 use Rattle.lrc_base.specs.declared.raw.RawExpr.TheVariants as x
-use Rattle.lrc_base.specs.declared.raw.RawTerm.{RawTerm, RawTerm-F, fold-roll-RawTerm}
-use Rattle.lrc_base.specs.declared.raw.RawTerm.TheVariants as t
+use Rattle.lrc_base.specs.declared.raw_term.RawTermTree.{RawTermTree, RawTermTree-F, fold-roll-RawTermTree}
+use Rattle.lrc_base.specs.declared.raw_term.RawTermTree.TheVariants as t
 use Rattle.lrc_meaning.specs.Tree.{Tree, int, bool, name, node, row}
 use Rattle.lrc_meaning.specs.Naming.{Known, named_step, named_expr, or_leaf, occurrence_number, written_number, named_tree_step, named_tree, production_number, each_some}
 
@@ -58,19 +58,19 @@ pub ruleset named_expr_equations = (named_expr-Int, named_expr-Bool, named_expr-
 module _ (prods : List Production) where
   pub named_tree-Int : (i : ℤ) → named_tree prods (t.Int i) ≡ Some (int i)
   unfolding named_tree
-  named_tree-Int i = ap (named_tree prods) (sym (t.rolls-Int i)) ∙ fold-roll-RawTerm (Option Tree) (named_tree_step prods) (RawTerm-F.Int i)
+  named_tree-Int i = ap (named_tree prods) (sym (t.rolls-Int i)) ∙ fold-roll-RawTermTree (Option Tree) (named_tree_step prods) (RawTermTree-F.Int i)
 
   pub named_tree-Bool : (b : Bool) → named_tree prods (t.Bool b) ≡ Some (bool b)
   unfolding named_tree
-  named_tree-Bool b = ap (named_tree prods) (sym (t.rolls-Bool b)) ∙ fold-roll-RawTerm (Option Tree) (named_tree_step prods) (RawTerm-F.Bool b)
+  named_tree-Bool b = ap (named_tree prods) (sym (t.rolls-Bool b)) ∙ fold-roll-RawTermTree (Option Tree) (named_tree_step prods) (RawTermTree-F.Bool b)
 
   pub named_tree-Name : (n : List ℕ) → named_tree prods (t.Name n) ≡ Some (name n)
   unfolding named_tree
-  named_tree-Name n = ap (named_tree prods) (sym (t.rolls-Name n)) ∙ fold-roll-RawTerm (Option Tree) (named_tree_step prods) (RawTerm-F.Name n)
+  named_tree-Name n = ap (named_tree prods) (sym (t.rolls-Name n)) ∙ fold-roll-RawTermTree (Option Tree) (named_tree_step prods) (RawTermTree-F.Name n)
 
-  pub named_tree-Node : (n : List ℕ) (kids : List RawTerm) →
+  pub named_tree-Node : (n : List ℕ) (kids : List RawTermTree) →
       named_tree prods (t.Node n kids) ≡ option_and_then (λ p. option_map (λ ts. node p (row ts)) (each_some (map (named_tree prods) kids))) (production_number prods n)
   unfolding named_tree
-  named_tree-Node n kids = ap (named_tree prods) (sym (t.rolls-Node n kids)) ∙ fold-roll-RawTerm (Option Tree) (named_tree_step prods) (RawTerm-F.Node n kids)
+  named_tree-Node n kids = ap (named_tree prods) (sym (t.rolls-Node n kids)) ∙ fold-roll-RawTermTree (Option Tree) (named_tree_step prods) (RawTermTree-F.Node n kids)
 
 pub ruleset named_tree_equations = (named_tree-Int, named_tree-Bool, named_tree-Name, named_tree-Node)

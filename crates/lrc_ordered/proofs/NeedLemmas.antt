@@ -10,7 +10,7 @@ use Rattle.lrc_meaning.proofs.ExpressionLemmas.{expression-Int, expression-Bool,
 use Rattle.lrc_order_meaning.specs.declared.Need.{Need}
 use Rattle.lrc_meaning.specs.Expression.{expression, expression_row}
 use Rattle.lrc_order_meaning.specs.Needs.{need, reads, reads_of_each}
-use Rattle.lrc_grammar.proofs.FittingLemmas.{next_left}
+use Rattle.lrc_grammar.proofs.ListLemmas.{next_left}
 
 pub next_reads : (args : List Expr) (i : ℕ) (e : Expr) → i < length args → e ≡ get_or args i e
     → reads_of_each (expression_row (map expression (drop i args)))

@@ -1,14 +1,18 @@
--- What stands at a place and what is put there, step by step: their parts, names, heights and productions.
-use Rattle.std.proofs.Common.{◌≡◌, ℕ, zero, suc, ◌+◌, ◌≤◌, nat_lt, List, [], ◌∷◌, length, Some, IsTrue, refl, ap, subst, arith}
-use Rattle.std.proofs.lemmas.Bool.{and_parts, and_from, false≢true, lt-ltb}
-use Rattle.std.proofs.lemmas.Option.{same_Some, slice_get_within}
+-- What stands at a place and what is put there, step by step: their parts, names, heights, productions and numbers of children.
+use Rattle.std.proofs.Common.{◌≡◌, ℕ, zero, suc, ◌+◌, ◌≤◌, nat_lt, nat_le, List, [], ◌∷◌, length, Option, Some, IsTrue, slice_get, refl, ap, subst, arith}
+use Rattle.std.specs.Prelude.{All}
+use Rattle.std.specs.Option.{option_map_or}
+use Rattle.std.proofs.lemmas.Bool.{and_parts, and_from, false≢true, lt-ltb, le-leb}
+use Rattle.std.proofs.lemmas.Option.{same_Some, slice_get_within, get_or_from_slice_get}
 use Rattle.lrc_base.specs.declared.grammar.Kid.{Kid}
 use Rattle.lrc_base.specs.declared.grammar.Kind.{Kind}
 use Rattle.lrc_base.specs.declared.grammar.Production.{Production}
-use Rattle.lrc_meaning.specs.Tree.{Tree, int, bool, name, node, Trees, none, more, is_left, kids_of, fits, each_fits, tree_height, tallest, at_place, among, replaced, replaced_among}
+use Rattle.lrc_base.specs.declared.limits.TheConstants.{CHILD_LIMIT}
+use Rattle.lrc_meaning.specs.Tree.{Tree, int, bool, name, node, Trees, none, more, in_order, is_left, kids_of, fits, each_fits, tree_height, tallest, at_place, among, replaced, replaced_among}
+use Rattle.lrc_meaning.specs.Limits.{IsFew}
 use Rattle.lrc_meaning.proofs.KindLemmas.{left_kind}
 use Rattle.lrc_store.specs.Cells.{nil, parts, IsWithin}
-use Rattle.lrc_code.specs.Forms.{tree_cell, are_productions_below, are_kids_below, EachName, EachNameBelow}
+use Rattle.lrc_code.specs.Forms.{tree_cell, are_productions_below, are_kids_below, are_kids_few, are_all_few, EachName, EachNameBelow}
 use Rattle.lrc_code.proofs.Growing.{left-within, right-within}
 use Rattle.lrc_places.specs.Places.{kids_cell}
 
@@ -106,3 +110,39 @@ module _ (prods : List Production) (limit : ℕ) (few : length prods ≤ limit) 
     kids-below (more t ts) (kid ∷ kids) h =
         let both = and_parts (fits prods t kid.kind) (each_fits prods ts kids) h in
         and_from (are_productions_below limit t) (are_kids_below limit ts) (productions-below t kid.kind both.0) (kids-below ts kids both.1)
+
+-- ---- children
+
+module _ (prods : List Production) (few : All IsFew prods) where
+  each-few : (ts : Trees) (kids : List Kid) → IsTrue (each_fits prods ts kids) → length (in_order ts) ≤ length kids
+  each-few none kids h = omega arith
+  each-few (more t ts) [] h = absurd (false≢true h)
+  each-few (more t ts) (kid ∷ kids) h =
+      let rest = each-few ts kids (and_parts (fits prods t kid.kind) (each_fits prods ts kids) h).1 in omega (arith, rest)
+
+  -- a node has as many as its production
+  own-few : (p : ℕ) (q : Production) → slice_get prods p ≡ Some q → (kids : Trees) → IsTrue (each_fits prods kids (kids_of prods p)) → length (in_order kids) ≤ CHILD_LIMIT
+  own-few p q e kids h =
+      let many = each-few kids (kids_of prods p) h in
+      let same = ap (λ (o : Option Production). length (option_map_or (λ (r : Production). r.kids) o [])) e in
+      let most = (subst IsFew (get_or_from_slice_get prods p q q e) (few p q (slice_get_within prods p q e))).kids in
+      omega (arith, many, same, most)
+
+  mutual
+    -- a tree that fits has no node with more children than a production may have
+    pub children-few : (t : Tree) (kind : Kind) → IsTrue (fits prods t kind) → IsTrue (are_kids_few CHILD_LIMIT t)
+    children-few (int i) kind h = refl
+    children-few (bool b) kind h = refl
+    children-few (name n) kind h = refl
+    children-few (node p kids) kind h =
+        let both = and_parts (is_left prods p kind) (each_fits prods kids (kids_of prods p)) h in
+        let own = left_kind prods p kind both.0 in
+        and_from (nat_le (length (in_order kids)) CHILD_LIMIT) (are_all_few CHILD_LIMIT kids)
+        (le-leb (length (in_order kids)) CHILD_LIMIT (own-few p own.0 own.1 kids both.1)) (kids-few kids (kids_of prods p) both.1)
+
+    kids-few : (ts : Trees) (kids : List Kid) → IsTrue (each_fits prods ts kids) → IsTrue (are_all_few CHILD_LIMIT ts)
+    kids-few none kids h = refl
+    kids-few (more t ts) [] h = absurd (false≢true h)
+    kids-few (more t ts) (kid ∷ kids) h =
+        let both = and_parts (fits prods t kid.kind) (each_fits prods ts kids) h in
+        and_from (are_kids_few CHILD_LIMIT t) (are_all_few CHILD_LIMIT ts) (children-few t kid.kind both.0) (kids-few ts kids both.1)

@@ -1,10 +1,10 @@
 -- What a put answers, from what its calls do: those that read, the one that puts the term, and the one that builds the whole.
-use Rattle.std.proofs.Common.{◌≡◌, ◌≢◌, ℕ, List, Option, Some, sym, ap, ◌∙◌, subst}
+use Rattle.std.proofs.Common.{◌≡◌, ◌≢◌, ◌<◌, ◌≤◌, ℕ, List, Option, Some, sym, ap, ◌∙◌, subst}
 use Rattle.std.proofs.lemmas.Option.{same_Some}
 use Rattle.std.specs.Prelude.{Result, Ok, Err, IsErr, IsErrAnd}
 use Rattle.lrc_base.specs.declared.grammar.Kind.{Kind}
 use Rattle.lrc_base.specs.declared.grammar.Production.{Production}
-use Rattle.lrc_meaning.specs.Tree.{Tree, kind_of, at_place, replaced}
+use Rattle.lrc_meaning.specs.Tree.{Tree, kind_of, tree_height, at_place, replaced}
 use Rattle.lrc_store.specs.Cells.{parts, IsWithin}
 use Rattle.lrc_store.specs.Standing.{Standing}
 use Rattle.lrc_store.specs.Words.{Reads}
@@ -40,10 +40,10 @@ module _ (s t u : Standing) (whole new old : Tree) (steps : List ℕ) (there : a
   pub whole-over : (term : Handle) (answer : Result Handle Full) → Builds s t (tree_cell new) (Ok term) → Builds t u (tree_cell (replaced whole steps new)) answer → Builds s u (tree_cell (replaced whole steps new)) answer
   whole-over term answer b d = builds-then s t u (tree_cell new) (tree_cell (replaced whole steps new)) answer new-within b.adds d
 
-module _ (prods : List Production) (whole : Tree) (steps : List ℕ) (new : Tree) (kind : Kind) where
+module _ (prods : List Production) (whole : Tree) (steps : List ℕ) (new : Tree) (kind : Kind) (limit : ℕ) where
   -- what stands at the place is of another kind
   pub wrong-sort : (s t : Standing) (old : Tree) (found : Kind) → Reads s t → at_place whole steps ≡ Some old → kind_of prods old ≡ Some found → found ≢ kind →
-      Replaces prods s t whole steps new kind (Err fault.WrongSort)
+      Replaces prods s t whole steps new kind limit (Err fault.WrongSort)
   wrong-sort s t old found reads there is differs = record {
     adds = reads-adds s t (parts (tree_cell (replaced whole steps new))) reads;
     answers = (record { old = old; there = there; other = λ e. differs (same_Some found kind (sym is ∙ e)) }, reads);
@@ -51,12 +51,19 @@ module _ (prods : List Production) (whole : Tree) (steps : List ℕ) (new : Tree
 
   -- the place is there, and of the kind
 
-  module _ (s t u : Standing) (place : IsPlace prods whole steps kind) (reads : Reads s t) where
-    -- the one fault that want of a row turns into
-    pub put-full : (e : Full) (answer : Result Handle ReplaceFault) → IsErrAnd answer (λ f. f ≡ fault.Full) → Builds t u (tree_cell (replaced whole steps new)) (Err e) → Replaces prods s u whole steps new kind answer
-    put-full e (Ok handle) is b = absurd is
-    put-full e (Err f) is b = subst (λ w. Replaces prods s u whole steps new kind (Err w)) (sym is)
-        (record { adds = (read-builds s t u (tree_cell (replaced whole steps new)) (Err e) reads b).adds; answers = (place, b.full) })
+  -- what is put is higher than the limit
+  pub too-high : (s t : Standing) → IsPlace prods whole steps kind → Reads s t → limit < tree_height new → Replaces prods s t whole steps new kind limit (Err fault.TooHigh)
+  too-high s t place reads high = record {
+    adds = reads-adds s t (parts (tree_cell (replaced whole steps new))) reads;
+    answers = (place, high, reads);
+  }
 
-    pub put-built : (handle : Handle) → Builds t u (tree_cell (replaced whole steps new)) (Ok handle) → Replaces prods s u whole steps new kind (Ok handle)
-    put-built handle b = record { adds = (read-builds s t u (tree_cell (replaced whole steps new)) (Ok handle) reads b).adds; answers = (place, b.ok) }
+  module _ (s t u : Standing) (place : IsPlace prods whole steps kind) (low : tree_height new ≤ limit) (reads : Reads s t) where
+    -- the one fault that want of a row turns into
+    pub put-full : (e : Full) (answer : Result Handle ReplaceFault) → IsErrAnd answer (λ f. f ≡ fault.Full) → Builds t u (tree_cell (replaced whole steps new)) (Err e) → Replaces prods s u whole steps new kind limit answer
+    put-full e (Ok handle) is b = absurd is
+    put-full e (Err f) is b = subst (λ w. Replaces prods s u whole steps new kind limit (Err w)) (sym is)
+        (record { adds = (read-builds s t u (tree_cell (replaced whole steps new)) (Err e) reads b).adds; answers = (place, low, b.full) })
+
+    pub put-built : (handle : Handle) → Builds t u (tree_cell (replaced whole steps new)) (Ok handle) → Replaces prods s u whole steps new kind limit (Ok handle)
+    put-built handle b = record { adds = (read-builds s t u (tree_cell (replaced whole steps new)) (Ok handle) reads b).adds; answers = (place, low, b.ok) }

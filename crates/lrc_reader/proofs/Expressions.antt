@@ -174,13 +174,13 @@ expr_at j n =
     staged_levels kind slacker slack_wide expr_shape refl (λ i. g.IsExprOver i) (λ i. read_expr_over i) a_literal (λ o p N a i inner q. expr_over N a inner {r = true} q) j n
 
 -- the levels that a slack leaves
-abbrev pub chosen : ℕ → Room
+abbrev chosen : ℕ → Room
 chosen i = (i, level_limit i)
 
-pub chosen_keeps : (i j : ℕ) → slacker i j → roomier (chosen i) (chosen j)
+chosen_keeps : (i j : ℕ) → slacker i j → roomier (chosen i) (chosen j)
 chosen_keeps i j h = (h, omega (arith, h))
 
-pub chosen_reach : (k : Room) → (i : ℕ) × roomier k (chosen i)
+chosen_reach : (k : Room) → (i : ℕ) × roomier k (chosen i)
 chosen_reach k = (k.0 + k.1, (omega arith, omega arith))
 
 pub expr : {o r p : Bool} {i : ℕ} → Staged kind slacker o r p expr_shape (λ j. g.IsExpr j) (λ j. read_expr j) i

@@ -1,8 +1,8 @@
 -- The readings of the other parts of a job are exact, with a place for each stop.
 use Rattle.std.proofs.Common.{◌≡◌, ℕ, ◌+◌, Bool, true, false, Some, List, [], ◌∷◌, refl, sym, inl, arith, pos}
 use Rattle.lrc_base.specs.declared.limits.TheConstants.{ATTRIBUTE_LIMIT, CHILD_LIMIT, LOCAL_LIMIT, SORT_LIMIT, PRODUCTION_LIMIT, SESSION_LIMIT, EDIT_LIMIT}
-use Rattle.lrc_base.specs.declared.raw.RawTerm.{RawTerm}
-use Rattle.lrc_base.specs.declared.raw.RawTerm.TheVariants as t
+use Rattle.lrc_base.specs.declared.raw_term.RawTermTree.{RawTermTree}
+use Rattle.lrc_base.specs.declared.raw_term.RawTermTree.TheVariants as t
 use Rattle.lrc_parse.specs.Kinds.{has, disjoint}
 use Rattle.lrc_parse.specs.Limited.{Limited, Beyond, One, Given, Either, Optional, Loop, Many, Most, Levels, Separated, SeparatedMost}
 use Rattle.lrc_parse.specs.Reading.{Cause, expected, nested, read_most, read_separated, read_separated_most}
@@ -20,7 +20,7 @@ use Rattle.lrc_reader.specs.declared.lexeme.Lexeme.TheVariants as l
 use Rattle.lrc_reader.specs.declared.lexeme.Mark.TheVariants as m
 use Rattle.lrc_reader.specs.declared.fault.Limit.TheVariants.{Sorts, Attributes, Productions, Children, Locals, Sessions, Edits}
 use Rattle.lrc_reader.specs.Lexeme.{kind, number}
-use Rattle.lrc_reader.specs.Limits.{sort_limit, attribute_limit, production_limit, child_limit, local_limit, session_limit, edit_limit, level_limit, passing}
+use Rattle.lrc_reader.specs.Limits.{sort_limit, attribute_limit, production_limit, child_limit, local_limit, session_limit, edit_limit, term_level_limit, passing}
 use Rattle.lrc_reader.specs.Grammar as g
 use Rattle.lrc_reader.specs.Grammar.{Name, Items, literal_term, one_of, piece_of, count_of}
 use Rattle.lrc_reader.specs.First.{only, words, naturals, literals, directions, declarations, others, items, pieces, terms, edits}
@@ -28,11 +28,11 @@ use Rattle.lrc_reader.specs.Reading.{Reader, read_kid, read_push_kid, read_more_
 use Rattle.lrc_reader.proofs.Tables.{tells_literal, tells_piece, tells_count}
 use Rattle.lrc_reader.proofs.Turns.{separated_is, separated_most_is}
 use Rattle.lrc_reader.proofs.Exactly.{then, end, either, one, roomy, begins, mark, word, path, a_kind, attr, kid}
-use Rattle.lrc_reader.proofs.Expressions.{slacker, slack_wide, Room, roomier, wide, chosen, chosen_keeps, chosen_reach, expr}
+use Rattle.lrc_reader.proofs.Expressions.{slacker, slack_wide, Room, roomier, wide, expr}
 
 -- ---- terms
 
-module _ (N : Room → Unit {0} → Limited Lexeme RawTerm) (a : Room → Unit {0} → Reader RawTerm) {o p : Bool} {j : Room} (inner : (q : Unit {0}) → Staged kind roomier o false p (begins terms) (λ k. N k q) (λ k. a k q) j) where
+module _ (N : Room → Unit {0} → Limited Lexeme RawTermTree) (a : Room → Unit {0} → Reader RawTermTree) {o p : Bool} {j : Room} (inner : (q : Unit {0}) → Staged kind roomier o false p (begins terms) (λ k. N k q) (λ k. a k q) j) where
   some_terms : Staged kind roomier o false p (shape_then (begins terms) (shape_many (shape_skip (number m.Comma) (begins terms)))) (λ k. Separated kind (number m.Comma) (N k tt)) (λ k. read_some_terms (a k tt)) j
   unfolding read_some_terms read_push_term read_more_terms
   some_terms =
@@ -49,18 +49,28 @@ module _ (N : Room → Unit {0} → Limited Lexeme RawTerm) (a : Room → Unit {
   unfolding read_term_over read_leaf
   term_over q = either wide (one wide literals literal_term (tells_literal t.Int t.Bool t.Name) (l.Natural (pos 0)) refl) tree refl refl
 
-a_leaf : (q : Unit {0}) → (i : ℕ) × (u : List Lexeme) × (x : RawTerm) × (g.IsTermOver (λ _. Beyond kind terms nested) q).derives u x
+a_leaf : (q : Unit {0}) → (i : ℕ) × (u : List Lexeme) × (x : RawTermTree) × (g.IsTermOver (λ _. Beyond kind terms nested) q).derives u x
 a_leaf q = (0, l.Natural (pos 0) ∷ [], t.Int (pos 0), inl (l.Natural (pos 0), refl, refl))
 
 pub term_at : (j : Room) → Staged kind roomier true true true (begins terms) (λ k. Levels kind terms g.IsTermOver k.1 tt) (λ k. read_term_at k.1) j
 unfolding read_term_at
 term_at j = staged_levels kind slacker slack_wide (begins terms) refl (λ _. g.IsTermOver) (λ _. read_term_over) a_leaf (λ o p N a i inner q. term_over N a inner {r = true} q) j tt
 
+-- the levels of terms that a slack leaves
+abbrev term_levels : ℕ → Room
+term_levels i = (i, term_level_limit i)
+
+term_levels_keep : (i j : ℕ) → slacker i j → roomier (term_levels i) (term_levels j)
+term_levels_keep i j h = (h, omega (arith, h))
+
+term_levels_reach : (k : Room) → (i : ℕ) × roomier k (term_levels i)
+term_levels_reach k = (k.0 + k.1, (omega arith, omega arith))
+
 pub term : {o r p : Bool} {i : ℕ} → Staged kind slacker o r p (begins terms) (λ j. g.IsTerm j) (λ j. read_term j) i
 unfolding read_term
 term {o} {r} {p} {i} =
-    stages kind slacker o r p (begins terms) (λ j. g.IsTerm j) (λ j. read_term_at (level_limit j)) i
-    (staged_chosen kind roomier slacker chosen chosen_keeps chosen_reach wide (begins terms) (λ k. Levels kind terms g.IsTermOver k.1 tt) (λ k. read_term_at k.1) i (term_at (chosen i)))
+    stages kind slacker o r p (begins terms) (λ j. g.IsTerm j) (λ j. read_term_at (term_level_limit j)) i
+    (staged_chosen kind roomier slacker term_levels term_levels_keep term_levels_reach wide (begins terms) (λ k. Levels kind terms g.IsTermOver k.1 tt) (λ k. read_term_at k.1) i (term_at (term_levels i)))
 
 -- ---- limits that are a number and the slack
 

@@ -5,6 +5,9 @@ pub mod Exactly
 pub mod Expressions
 pub mod Jobs
 pub mod Shorter
+pub mod TermSteps
+pub mod OpenNodes
+pub mod TermTurns
 pub mod Verdict
 pub mod Nodes
 pub mod Limits

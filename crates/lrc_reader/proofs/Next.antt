@@ -1,20 +1,60 @@
 -- Readings that look at the next lexeme, by what stands at place 0.
-use Rattle.std.proofs.Common.{◌≡◌, ℕ, ◌==◌, ◌<◌, ◌≤◌, ltb, Bool, true, false, cond, Option, Some, None, List, [], ◌∷◌, drop, slice_get, refl, sym, ap, ◌∙◌, arith}
+use Rattle.std.proofs.Common.{◌≡◌, ℕ, ◌==◌, ◌<◌, ◌≤◌, ltb, Bool, true, false, cond, Option, Some, None, List, [], ◌∷◌, drop, slice_get, slice_range, refl, sym, ap, ◌∙◌, arith}
 use Rattle.std.proofs.lemmas.Bool.{lt-ltb, le-ltb}
 use Rattle.std.proofs.lemmas.Bool.Decides.{nat_tests}
+use Rattle.lrc_lex.specs.declared.Token.{Token}
+use Rattle.lrc_lex.specs.declared.TokenClass.{TokenClass}
+use Rattle.lrc_lex.specs.declared.TokenClass.TheVariants as class
 use Rattle.lrc_parse.specs.Kinds.{has, starts}
 use Rattle.lrc_parse.specs.Reading.{Cause, Reading, expected, took, stops, on_took, read_one, read_fixed, read_nothing, read_within, token_value}
 use Rattle.lrc_parse.proofs.Steps.{read_within_passed, read_within_other}
 use Rattle.lrc_reader.specs.declared.lexeme.Lexeme.{Lexeme}
-use Rattle.lrc_reader.specs.Lexeme.{kind, next_kind}
+use Rattle.lrc_reader.specs.declared.lexeme.Mark.{Mark}
+use Rattle.lrc_reader.specs.Lexeme.{kind, seen, seen_as, lexemes, mark_seen, next_mark, kind_seen}
 
-pub starts_next : (ks : List ℕ) (u : List Lexeme) (k : ℕ) → Some k ≡ next_kind u → starts kind ks u ≡ has ks k
-starts_next ks [] k e = cc
-starts_next ks (x ∷ u) k e = let f : k ≡ kind x = cc in ap (has ks) (sym f)
+-- what is seen of a token is seen with the mark that it is
+seen_is : (c : TokenClass) (spelling : List ℕ) → seen c spelling ≡ seen_as c spelling (mark_seen c spelling)
+unfolding seen
+seen_is class.Word spelling = refl
+seen_is class.Symbol spelling = refl
+seen_is class.Natural spelling = refl
+seen_is class.Negative spelling = refl
+seen_is class.NameLit spelling = refl
+seen_is class.Text spelling = refl
+seen_is class.Path spelling = refl
 
-pub starts_end : (ks : List ℕ) (u : List Lexeme) → None ≡ next_kind u → starts kind ks u ≡ false
-starts_end ks [] e = refl
-starts_end ks (x ∷ u) e = cc
+-- its kind
+kind_as : (c : TokenClass) (spelling : List ℕ) (mark : Option Mark) → kind (seen_as c spelling mark) ≡ kind_seen c mark
+kind_as class.Word spelling (Some m) = refl
+kind_as class.Word spelling None = refl
+kind_as class.Symbol spelling (Some m) = refl
+kind_as class.Symbol spelling None = refl
+kind_as class.Natural spelling mark = refl
+kind_as class.Negative spelling mark = refl
+kind_as class.NameLit spelling mark = refl
+kind_as class.Text spelling mark = refl
+kind_as class.Path spelling mark = refl
+
+pub starts_next : (ks text : List ℕ) (tokens : List Token) (token : Token) (mark : Option Mark) → slice_get tokens 0 ≡ Some token → mark ≡ next_mark text tokens →
+    starts kind ks (lexemes text tokens) ≡ has ks (kind_seen token.class mark)
+starts_next ks text [] token mark e f = cc
+starts_next ks text (t ∷ tokens) token mark e f =
+    let g : t ≡ token = cc in
+    ap (λ x. has ks (kind x)) (seen_is t.class (slice_range text t.at t.end) ∙ ap (seen_as t.class (slice_range text t.at t.end)) (sym f))
+    ∙ ap (has ks) (kind_as t.class (slice_range text t.at t.end) mark ∙ ap (λ (s : Token). kind_seen s.class mark) g)
+
+pub starts_end : (ks text : List ℕ) (tokens : List Token) → slice_get tokens 0 ≡ None → starts kind ks (lexemes text tokens) ≡ false
+starts_end ks text [] e = refl
+starts_end ks text (t ∷ tokens) e = cc
+
+pub next_lexeme : (text : List ℕ) (tokens : List Token) (token : Token) (mark : Option Mark) → slice_get tokens 0 ≡ Some token → mark ≡ next_mark text tokens →
+    Some (seen_as token.class (slice_range text token.at token.end) mark) ≡ slice_get (lexemes text tokens) 0
+next_lexeme text [] token mark e f = cc
+next_lexeme text (t ∷ tokens) token mark e f =
+    let g : token ≡ t = cc in
+    ap (λ (s : Token). Some (seen_as s.class (slice_range text s.at s.end) mark)) g
+    ∙ ap (λ m. Some (seen_as t.class (slice_range text t.at t.end) m)) f
+    ∙ ap Some (sym (seen_is t.class (slice_range text t.at t.end)))
 
 -- a kind alone
 pub has_only : (k n : ℕ) → has (k ∷ []) n ≡ (k == n)

@@ -1,5 +1,5 @@
 -- An expression that is read has as many nodes as were counted on the way, and at most the limit.
-use Rattle.std.proofs.Common.{◌≡◌, ℕ, zero, suc, ◌+◌, ◌<◌, ◌≤◌, Bool, true, false, Option, Some, List, [], ◌∷◌, ◌++◌, sum_by, refl, sym, ap, ◌∙◌, subst, arith, inl, inr}
+use Rattle.std.proofs.Common.{◌≡◌, ℕ, zero, suc, ◌+◌, ◌<◌, ◌≤◌, true, false, Option, Some, List, [], sum_by, sym, ap, ◌∙◌, subst, arith, inl, inr}
 use Rattle.std.proofs.lemmas.Bool.{ltb-true}
 use Rattle.std.proofs.lemmas.List.Sums.{sum_by_push}
 use Rattle.lrc_base.specs.declared.limits.TheConstants.{NODE_LIMIT}
@@ -15,7 +15,7 @@ use Rattle.lrc_reader.specs.declared.lexeme.Lexeme.TheVariants as l
 use Rattle.lrc_reader.specs.declared.lexeme.Mark.TheVariants as m
 use Rattle.lrc_reader.specs.Lexeme.{kind}
 use Rattle.lrc_reader.specs.First.{times, plus, comparisons, exprs}
-use Rattle.lrc_reader.specs.Grammar.{Name, Counted, mark, literal_expr, times_of, plus_of, comparison_of, IsStep, IsLiteral, IsTwo, IsBrackets, IsArgument, IsArguments, IsMake, IsNamed, IsAtom, IsProduct, IsSum, IsCompare, IsIf, IsExprOver, IsExpr}
+use Rattle.lrc_reader.specs.Grammar.{Name, Counted, mark, literal_expr, times_of, plus_of, comparison_of, IsStep, IsLiteral, IsBrackets, IsArgument, IsArguments, IsMake, IsNamed, IsAtom, IsProduct, IsSum, IsCompare, IsIf, IsExprOver, IsExpr}
 
 -- ---- literals
 

@@ -7,7 +7,7 @@ use Rattle.lrc_base.specs.declared.raw.RawKid.{RawKid}
 use Rattle.lrc_base.specs.declared.raw.RawPiece.{RawPiece}
 use Rattle.lrc_base.specs.declared.raw.RawExpr.{RawExpr}
 use Rattle.lrc_base.specs.declared.raw.RawProd.{RawProd}
-use Rattle.lrc_base.specs.declared.raw.RawTerm.{RawTerm}
+use Rattle.lrc_base.specs.declared.raw_term.RawTermTree.{RawTermTree}
 use Rattle.lrc_base.specs.declared.job.RawEdit.{RawEdit}
 use Rattle.lrc_base.specs.declared.job.RawScript.{RawScript}
 use Rattle.lrc_parse.specs.Kinds.{starts}
@@ -228,22 +228,22 @@ piece_end xs u e = read_many_end kind pieces read_piece xs u e
 
 -- ---- terms
 
-pub term_shorter : (levels : ℕ) (xs zs : List RawTerm) (u r : List Lexeme) → read_another_term (read_term_at levels) xs u ≡ took zs r → length r < length u
+pub term_shorter : (levels : ℕ) (xs zs : List RawTermTree) (u r : List Lexeme) → read_another_term (read_term_at levels) xs u ≡ took zs r → length r < length u
 unfolding read_another_term read_push_term
 term_shorter levels xs zs u r h =
     behind_mark (number m.Comma) _ zs u r (λ v i. push_shorter _ _ _ ((term_at (0, levels)).exact (0, levels)) refl (λ x. xs ++ x ∷ []) zs v r i) h
 
-pub term_turn : (levels : ℕ) (xs zs : List RawTerm) (u r : List Lexeme) → starts kind (only m.Comma) u ≡ true →
+pub term_turn : (levels : ℕ) (xs zs : List RawTermTree) (u r : List Lexeme) → starts kind (only m.Comma) u ≡ true →
     read_another_term (read_term_at levels) xs u ≡ took zs r → read_more_terms (read_term_at levels) xs u ≡ read_more_terms (read_term_at levels) zs r
 unfolding read_more_terms read_another_term read_push_term
 term_turn levels xs zs u r e f = others_turn (number m.Comma) (read_term_at levels) xs zs u r e f (term_shorter levels xs zs u r f)
 
-pub term_stops : (levels : ℕ) (xs : List RawTerm) (c : Cause) (u r : List Lexeme) → starts kind (only m.Comma) u ≡ true →
+pub term_stops : (levels : ℕ) (xs : List RawTermTree) (c : Cause) (u r : List Lexeme) → starts kind (only m.Comma) u ≡ true →
     read_another_term (read_term_at levels) xs u ≡ stops c r → read_more_terms (read_term_at levels) xs u ≡ stops c r
 unfolding read_more_terms read_another_term read_push_term
 term_stops levels xs c u r e h = others_stops (number m.Comma) (read_term_at levels) xs c u r e h
 
-pub term_end : (levels : ℕ) (xs : List RawTerm) (u : List Lexeme) → starts kind (only m.Comma) u ≡ false → read_more_terms (read_term_at levels) xs u ≡ took xs u
+pub term_end : (levels : ℕ) (xs : List RawTermTree) (u : List Lexeme) → starts kind (only m.Comma) u ≡ false → read_more_terms (read_term_at levels) xs u ≡ took xs u
 unfolding read_more_terms
 term_end levels xs u e = read_others_end kind (number m.Comma) (read_term_at levels) xs u e
 

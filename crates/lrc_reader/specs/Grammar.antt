@@ -15,8 +15,8 @@ use Rattle.lrc_base.specs.declared.raw.RawExpr.TheVariants as e
 use Rattle.lrc_base.specs.declared.raw.RawItem.{RawItem}
 use Rattle.lrc_base.specs.declared.raw.RawItem.TheVariants as item
 use Rattle.lrc_base.specs.declared.raw.RawProd.{RawProd}
-use Rattle.lrc_base.specs.declared.raw.RawTerm.{RawTerm}
-use Rattle.lrc_base.specs.declared.raw.RawTerm.TheVariants as t
+use Rattle.lrc_base.specs.declared.raw_term.RawTermTree.{RawTermTree}
+use Rattle.lrc_base.specs.declared.raw_term.RawTermTree.TheVariants as t
 use Rattle.lrc_base.specs.declared.raw.RawGrammar.{RawGrammar}
 use Rattle.lrc_base.specs.declared.job.Path.{Path}
 use Rattle.lrc_base.specs.declared.job.RawEdit.{RawEdit}
@@ -31,7 +31,7 @@ use Rattle.lrc_reader.specs.declared.lexeme.Mark.TheVariants as m
 use Rattle.lrc_reader.specs.declared.fault.Limit.TheVariants.{Sorts, Attributes, Productions, Children, Locals, Nodes, Sessions, Edits}
 use Rattle.lrc_reader.specs.Lexeme.{kind, number, word_of, path_of}
 use Rattle.lrc_reader.specs.First.{only, words, literals, directions, times, plus, comparisons, exprs, declarations, terms, edits}
-use Rattle.lrc_reader.specs.Limits.{sort_limit, attribute_limit, production_limit, child_limit, local_limit, node_limit, session_limit, edit_limit, level_limit, passing}
+use Rattle.lrc_reader.specs.Limits.{sort_limit, attribute_limit, production_limit, child_limit, local_limit, node_limit, session_limit, edit_limit, level_limit, term_level_limit, passing}
 
 -- ---- one part after another, with its value
 
@@ -352,11 +352,11 @@ IsProd slack = do
 
 -- ---- terms; `Inner` is a term within this one
 
-abbrev pub literal_term : Lexeme → Option RawTerm
+abbrev pub literal_term : Lexeme → Option RawTermTree
 literal_term = literal t.Int t.Bool t.Name
 
 -- Word "(" [ term { "," term } ] ")"
-abbrev pub IsTree : Limited Lexeme RawTerm → Limited Lexeme RawTerm
+abbrev pub IsTree : Limited Lexeme RawTermTree → Limited Lexeme RawTermTree
 IsTree Inner = do
   name ← IsWord
   mark m.LeftParen
@@ -365,12 +365,12 @@ IsTree Inner = do
   pure (t.Node name kids)
 
 -- literal | tree
-abbrev pub IsTermOver : (Unit {0} → Limited Lexeme RawTerm) → Unit {0} → Limited Lexeme RawTerm
+abbrev pub IsTermOver : (Unit {0} → Limited Lexeme RawTermTree) → Unit {0} → Limited Lexeme RawTermTree
 IsTermOver Inner q = Either (One literal_term) (IsTree (Inner q))
 
 -- a term, with at most 1,000 within one another
-abbrev pub IsTerm : ℕ → Limited Lexeme RawTerm
-IsTerm slack = Levels kind terms IsTermOver (level_limit slack) tt
+abbrev pub IsTerm : ℕ → Limited Lexeme RawTermTree
+IsTerm slack = Levels kind terms IsTermOver (term_level_limit slack) tt
 
 -- ---- the header and the grammar
 
@@ -442,7 +442,7 @@ IsForget = do
 abbrev pub IsEdit : ℕ → Limited Lexeme RawEdit
 IsEdit slack = Either (IsPut slack) (Either IsCopy (Either IsShow IsForget))
 
-abbrev pub script_of : RawTerm → List RawEdit → RawScript
+abbrev pub script_of : RawTermTree → List RawEdit → RawScript
 script_of tree edits = record { tree = tree; edits = edits }
 
 -- "session" "on" term "{" { edit } "}"

@@ -83,8 +83,36 @@ seen class.NameLit spelling = l.Name (drop 1 spelling)
 seen class.Text spelling = l.Text (unquoted spelling)
 seen class.Path spelling = l.Path (place spelling)
 
+-- the same by the mark that the token is, if it is one
+abbrev pub seen_as : TokenClass → List ℕ → Option Mark → Lexeme
+seen_as class.Word spelling mark = word_or spelling mark
+seen_as class.Symbol spelling mark = mark_or_other mark
+seen_as class.Natural spelling mark = l.Natural (pos (natural_value spelling))
+seen_as class.Negative spelling mark = l.Negative (neg_ℤ (pos (natural_value (drop 1 spelling))))
+seen_as class.NameLit spelling mark = l.Name (drop 1 spelling)
+seen_as class.Text spelling mark = l.Text (unquoted spelling)
+seen_as class.Path spelling mark = l.Path (place spelling)
+
 abbrev pub lexeme_of : List ℕ → Token → Lexeme
 lexeme_of text t = seen t.class (slice_range text t.at t.end)
+
+-- the mark that a token of this class with this text is, if it is one
+abbrev pub mark_seen : TokenClass → List ℕ → Option Mark
+mark_seen class.Word spelling = mark_of spelling
+mark_seen class.Symbol spelling = mark_of spelling
+mark_seen class.Natural spelling = None
+mark_seen class.Negative spelling = None
+mark_seen class.NameLit spelling = None
+mark_seen class.Text spelling = None
+mark_seen class.Path spelling = None
+
+abbrev pub mark_at : List ℕ → Token → Option Mark
+mark_at text t = mark_seen t.class (slice_range text t.at t.end)
+
+-- the mark that the next of some tokens is, if it is one
+abbrev pub next_mark : List ℕ → List Token → Option Mark
+next_mark text [] = None
+next_mark text (token ∷ tokens) = mark_at text token
 
 abbrev pub lexemes : List ℕ → List Token → List Lexeme
 lexemes text toks = map (lexeme_of text) toks
@@ -147,6 +175,24 @@ text_kind = 4
 abbrev pub path_kind : ℕ
 path_kind = 5
 
+abbrev pub other_kind : ℕ
+other_kind = 6
+
+-- the kind of a mark, or else this
+abbrev pub number_or : ℕ → Option Mark → ℕ
+number_or k (Some m) = number m
+number_or k None = k
+
+-- the kind of a token of this class that is this mark, if it is one
+abbrev pub kind_seen : TokenClass → Option Mark → ℕ
+kind_seen class.Word mark = number_or word_kind mark
+kind_seen class.Symbol mark = number_or other_kind mark
+kind_seen class.Natural mark = natural_kind
+kind_seen class.Negative mark = negative_kind
+kind_seen class.NameLit mark = name_kind
+kind_seen class.Text mark = text_kind
+kind_seen class.Path mark = path_kind
+
 -- what a grammar tells lexemes by
 abbrev pub kind : Lexeme → ℕ
 kind (l.Word name) = word_kind
@@ -155,7 +201,7 @@ kind (l.Negative value) = negative_kind
 kind (l.Name name) = name_kind
 kind (l.Text bytes) = text_kind
 kind (l.Path path) = path_kind
-kind l.Other = 6
+kind l.Other = other_kind
 kind (l.Mark m) = number m
 
 -- the name that a word is
@@ -167,8 +213,3 @@ word_of _ = None
 abbrev pub path_of : Lexeme → Option Path
 path_of (l.Path path) = Some path
 path_of _ = None
-
--- the kind of the next of some lexemes
-abbrev pub next_kind : List Lexeme → Option ℕ
-next_kind [] = None
-next_kind (lexeme ∷ lexemes) = Some (kind lexeme)

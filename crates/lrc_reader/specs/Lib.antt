@@ -4,6 +4,7 @@ pub mod Limits
 pub mod First
 pub mod Grammar
 pub mod Reading
+pub mod Steps
 pub mod Gives
 pub mod Denotes
 pub mod Faults

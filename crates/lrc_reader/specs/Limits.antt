@@ -1,6 +1,6 @@
 -- The limits of jobs. Each may be widened by the same number, its slack, which is 0 for the limits themselves.
 use Rattle.std.specs.Prelude.{ℕ, ◌+◌}
-use Rattle.lrc_base.specs.declared.limits.TheConstants.{SORT_LIMIT, ATTRIBUTE_LIMIT, PRODUCTION_LIMIT, CHILD_LIMIT, LOCAL_LIMIT, NODE_LIMIT, LEVEL_LIMIT, SESSION_LIMIT, EDIT_LIMIT}
+use Rattle.lrc_base.specs.declared.limits.TheConstants.{SORT_LIMIT, ATTRIBUTE_LIMIT, PRODUCTION_LIMIT, CHILD_LIMIT, LOCAL_LIMIT, NODE_LIMIT, LEVEL_LIMIT, TERM_LEVEL_LIMIT, SESSION_LIMIT, EDIT_LIMIT}
 use Rattle.lrc_parse.specs.Reading.{Cause, limit}
 use Rattle.lrc_reader.specs.declared.fault.Limit.{Limit}
 use Rattle.lrc_reader.specs.declared.fault.Limit.TheVariants.{Sorts, Attributes, Productions, Children, Locals, Nodes, Sessions, Edits}
@@ -30,9 +30,13 @@ session_limit slack = SESSION_LIMIT + slack
 abbrev pub edit_limit : ℕ → ℕ
 edit_limit slack = EDIT_LIMIT + slack
 
--- expressions or terms within one another
+-- expressions within one another
 abbrev pub level_limit : ℕ → ℕ
 level_limit slack = LEVEL_LIMIT + slack
+
+-- terms within one another
+abbrev pub term_level_limit : ℕ → ℕ
+term_level_limit slack = TERM_LEVEL_LIMIT + slack
 
 abbrev pub number_of : Limit → ℕ
 number_of Sorts = 0

@@ -12,8 +12,8 @@ use Rattle.lrc_base.specs.declared.raw.RawExpr.TheVariants as e
 use Rattle.lrc_base.specs.declared.raw.RawItem.{RawItem}
 use Rattle.lrc_base.specs.declared.raw.RawItem.TheVariants as item
 use Rattle.lrc_base.specs.declared.raw.RawProd.{RawProd}
-use Rattle.lrc_base.specs.declared.raw.RawTerm.{RawTerm}
-use Rattle.lrc_base.specs.declared.raw.RawTerm.TheVariants as t
+use Rattle.lrc_base.specs.declared.raw_term.RawTermTree.{RawTermTree}
+use Rattle.lrc_base.specs.declared.raw_term.RawTermTree.TheVariants as t
 use Rattle.lrc_base.specs.declared.raw.RawGrammar.{RawGrammar}
 use Rattle.lrc_base.specs.declared.job.Path.{Path}
 use Rattle.lrc_base.specs.declared.job.RawEdit.{RawEdit}
@@ -27,7 +27,7 @@ use Rattle.lrc_reader.specs.declared.lexeme.Mark.TheVariants as m
 use Rattle.lrc_reader.specs.declared.fault.Limit.{Limit}
 use Rattle.lrc_reader.specs.declared.fault.Limit.TheVariants.{Sorts, Attributes, Productions, Children, Locals, Nodes, Sessions, Edits}
 use Rattle.lrc_reader.specs.Lexeme.{kind, number, word_of, path_of}
-use Rattle.lrc_reader.specs.Limits.{sort_limit, attribute_limit, production_limit, child_limit, local_limit, node_limit, session_limit, edit_limit, level_limit, passing}
+use Rattle.lrc_reader.specs.Limits.{sort_limit, attribute_limit, production_limit, child_limit, local_limit, node_limit, session_limit, edit_limit, level_limit, term_level_limit, passing}
 use Rattle.lrc_reader.specs.First.{only, words, literals, directions, times, plus, comparisons, exprs, declarations, items, pieces, terms, edits}
 use Rattle.lrc_reader.specs.Grammar.{Name, attr_of, sort_of, kid_of, Counted, literal_expr, times_of, plus_of, comparison_of, piece_of, equation_of, Items, prod_of, literal_term, one_of, grammar_of, count_of, script_of, job_of}
 
@@ -380,30 +380,30 @@ read_prod slack = do
 
 -- ---- terms
 
-unfoldable pub read_leaf : Reader RawTerm
+unfoldable pub read_leaf : Reader RawTermTree
 read_leaf = read_one literal_term
 
-module _ (inner : Reader RawTerm) where
+module _ (inner : Reader RawTermTree) where
   -- one term more behind these
-  unfoldable pub read_push_term : List RawTerm → Reader (List RawTerm)
+  unfoldable pub read_push_term : List RawTermTree → Reader (List RawTermTree)
   read_push_term xs = do
     x ← inner
     pure (xs ++ x ∷ [])
 
   -- the same behind a comma
-  unfoldable pub read_another_term : List RawTerm → Reader (List RawTerm)
+  unfoldable pub read_another_term : List RawTermTree → Reader (List RawTermTree)
   read_another_term xs = pass m.Comma >> read_push_term xs
 
-  unfoldable pub read_more_terms : List RawTerm → Reader (List RawTerm)
+  unfoldable pub read_more_terms : List RawTermTree → Reader (List RawTermTree)
   read_more_terms = read_others kind (number m.Comma) inner
 
-  unfoldable pub read_some_terms : Reader (List RawTerm)
+  unfoldable pub read_some_terms : Reader (List RawTermTree)
   read_some_terms = read_push_term [] >>= read_more_terms
 
-  unfoldable pub read_any_terms : Reader (List RawTerm)
+  unfoldable pub read_any_terms : Reader (List RawTermTree)
   read_any_terms = read_either kind terms read_some_terms (pure [])
 
-  unfoldable pub read_tree : Reader RawTerm
+  unfoldable pub read_tree : Reader RawTermTree
   read_tree = do
     name ← read_word
     pass m.LeftParen
@@ -411,15 +411,15 @@ module _ (inner : Reader RawTerm) where
     pass m.RightParen
     pure (t.Node name arguments)
 
-unfoldable pub read_term_over : (Unit {0} → Reader RawTerm) → Unit {0} → Reader RawTerm
+unfoldable pub read_term_over : (Unit {0} → Reader RawTermTree) → Unit {0} → Reader RawTermTree
 read_term_over inner q = read_either kind literals read_leaf (read_tree (inner q))
 
 -- a term with at most so many within one another, itself included
-unfoldable pub read_term_at : ℕ → Reader RawTerm
+unfoldable pub read_term_at : ℕ → Reader RawTermTree
 read_term_at levels = read_levels kind read_term_over terms levels tt
 
-unfoldable pub read_term : ℕ → Reader RawTerm
-read_term slack = read_term_at (level_limit slack)
+unfoldable pub read_term : ℕ → Reader RawTermTree
+read_term slack = read_term_at (term_level_limit slack)
 
 -- ---- the header and the grammar
 

@@ -10,7 +10,7 @@ ghost use Rattle.lrc_reader.specs.Reading as reading;
 ghost use Rattle.lrc_reader.specs.Gives.{Gives};
 
 use crate::fault::{Limit, Stop};
-use crate::lexeme::{Lexeme, Mark, kind_at, lexeme_of, number_of};
+use crate::lexeme::{Lexeme, Mark, kind_of, lexeme_of, mark_at, number_of};
 use lrc_base::{NameText, Path};
 use lrc_lex::Token;
 use std::alloc::Global;
@@ -21,8 +21,8 @@ use std::marker::Model;
 pub struct Cursor<'a> {
     text: &'a [u8],
     tokens: &'a [Token],
-    /// The kind of the first of them.
-    next: Option<u8>,
+    /// The mark that the first of them is, if it is one.
+    mark: Option<Mark>,
 }
 
 impl<'a> Model for Cursor<'a> {
@@ -33,20 +33,20 @@ impl<'a> Model for Cursor<'a> {
     ghost Value = { List Lexeme };
 
     ghost use Rattle.std.specs.Prelude.{◌≡◌};
-    ghost use Rattle.lrc_reader.specs.Lexeme.{lexemes, next_kind};
+    ghost use Rattle.lrc_reader.specs.Lexeme.{lexemes, next_mark};
 
     ghost view = { λ c. lexemes c.text.now c.tokens.now };
 
-    ghost invariant = { λ c. All (IsTokenOf c.text.now) c.tokens.now × (c.next ≡ next_kind (lexemes c.text.now c.tokens.now)) };
+    ghost invariant = { λ c. All (IsTokenOf c.text.now) c.tokens.now × (c.mark ≡ next_mark c.text.now c.tokens.now) };
 }
 
-/// The kind of the first of these tokens.
-fn first_kind(text: &[u8], tokens: &[Token]) -> Option<u8>
+/// The mark that the first of these tokens is, if it is one.
+fn first_mark(text: &[u8], tokens: &[Token]) -> Option<Mark>
     requires { All (IsTokenOf text.now) tokens.now }
-    ensures { result ≡ spec.next_kind (spec.lexemes text.now tokens.now) }
+    ensures { result ≡ spec.next_mark text.now tokens.now }
 {
     match tokens {
-        [first, ..] => Some(kind_at(text, *first)),
+        [first, ..] => mark_at(text, *first),
         [] => None,
     }
 }
@@ -74,7 +74,7 @@ impl<'a> Cursor<'a> {
         Cursor {
             text,
             tokens,
-            next: first_kind(text, tokens),
+            mark: first_mark(text, tokens),
         }
     }
 
@@ -83,7 +83,7 @@ impl<'a> Cursor<'a> {
         ensures { result ≡ slice_get self.now 0 }
     {
         let token = self.tokens.first()?;
-        Some(lexeme_of(self.text, *token))
+        Some(lexeme_of(self.text, *token, self.mark))
     }
 
     /// Goes past the next lexeme, if there is one.
@@ -92,7 +92,7 @@ impl<'a> Cursor<'a> {
     {
         if let [_, rest @ ..] = self.tokens {
             self.tokens = rest;
-            self.next = first_kind(self.text, rest);
+            self.mark = first_mark(self.text, rest);
         }
     }
 
@@ -104,12 +104,11 @@ impl<'a> Cursor<'a> {
     }
 
     /// Whether the next lexeme is of one of these kinds.
-    #[tactic(auto, using(crate::proofs::Next::starts_next, crate::proofs::Next::starts_end))]
     pub fn sees_one_of(&self, kinds: &[u8]) -> bool
         ensures { result ≡ starts kind kinds.now self.now }
     {
-        match self.next {
-            Some(kind) => has(kinds, kind),
+        match self.tokens.first() {
+            Some(first) => has(kinds, kind_of(first.class, self.mark)),
             None => false,
         }
     }

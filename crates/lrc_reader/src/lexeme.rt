@@ -1,6 +1,6 @@
 //! What the reader sees of a token.
 
-ghost use Rattle.std.specs.Prelude.{◌≡◌, map};
+ghost use Rattle.std.specs.Prelude.{◌≡◌, map, slice_range};
 ghost use Rattle.lrc_base.specs.Name.{IsName};
 ghost use Rattle.lrc_lex.specs.Longest.{IsTokenOf};
 ghost use Rattle.lrc_reader.specs.Grammar as grammar;
@@ -146,31 +146,54 @@ fn name(bytes: &[u8]) -> NameText
     }
 }
 
-/// A word by its spelling, reserved or not.
-fn word(spelling: &[u8]) -> Lexeme<'_>
-    requires { IsName spelling.now }
-    ensures { result ≡ spec.word_or spelling.now (spec.mark_of spelling.now) }
+/// The mark that a token of this text is, if it is one.
+pub fn mark_at(text: &[u8], token: Token) -> Option<Mark>
+    requires { IsTokenOf text.now token }
+    ensures { result ≡ spec.mark_at text.now token }
 {
-    if let Some(mark) = mark_of(spelling) {
-        return Lexeme::Mark(mark);
+    match token.class {
+        TokenClass::Word | TokenClass::Symbol => {
+            mark_of(&text[token.at as usize..token.end as usize])
+        }
+        TokenClass::Natural
+        | TokenClass::Negative
+        | TokenClass::NameLit
+        | TokenClass::Text
+        | TokenClass::Path => None,
     }
-    Lexeme::Word(name(spelling))
 }
 
-#[tactic(auto, unfolding(crate::specs::Lexeme::seen))]
-/// What the reader sees of a token of this text.
-pub fn lexeme_of(text: &[u8], token: Token) -> Lexeme<'_>
+/// A word by its spelling and the mark that it is, if it is reserved.
+fn word(spelling: &[u8], mark: Option<Mark>) -> Lexeme<'_>
+    requires { IsName spelling.now }
+    ensures { result ≡ spec.word_or spelling.now mark }
+{
+    match mark {
+        Some(mark) => Lexeme::Mark(mark),
+        None => Lexeme::Word(name(spelling)),
+    }
+}
+
+/// A symbol by the mark that it is, if a job has it.
+fn symbol(mark: Option<Mark>) -> Lexeme<'static>
+    ensures { result ≡ spec.mark_or_other mark }
+{
+    match mark {
+        Some(mark) => Lexeme::Mark(mark),
+        None => Lexeme::Other,
+    }
+}
+
+/// What the reader sees of a token of this text that is this mark, if it is one.
+pub fn lexeme_of(text: &[u8], token: Token, mark: Option<Mark>) -> Lexeme<'_>
     requires { IsTokenOf text.now token }
-    ensures { result ≡ spec.lexeme_of text.now token }
+    ensures { result ≡ spec.seen_as token.class (slice_range text.now token.at token.end) mark }
 {
     let spelling = &text[token.at as usize..token.end as usize];
     match token.class {
-        TokenClass::Word => word(spelling),
+        TokenClass::Word => word(spelling, mark),
         TokenClass::Natural => Lexeme::Natural(natural(spelling)),
-        TokenClass::Symbol => match mark_of(spelling) {
-            Some(mark) => Lexeme::Mark(mark),
-            None => Lexeme::Other,
-        },
+        TokenClass::Symbol => symbol(mark),
         TokenClass::Path => Lexeme::Path(PathText::of(spelling)),
         TokenClass::Negative => Lexeme::Negative(negative(spelling)),
         TokenClass::NameLit => Lexeme::Name(name(&spelling[1..])),
@@ -209,21 +232,23 @@ pub fn number_of(mark: Mark) -> u8
     mark as u8 + MARK_KIND
 }
 
-/// The kind of what the reader sees of a token of this text.
-#[tactic(auto, unfolding(crate::specs::Lexeme::seen))]
-pub fn kind_at(text: &[u8], token: Token) -> u8
-    requires { IsTokenOf text.now token }
-    ensures { result ≡ spec.kind (spec.lexeme_of text.now token) }
+/// The kind of a mark, or else this kind.
+fn number_or(kind: u8, mark: Option<Mark>) -> u8
+    ensures { result ≡ spec.number_or kind mark }
 {
-    match token.class {
-        TokenClass::Word => match mark_of(&text[token.at as usize..token.end as usize]) {
-            Some(mark) => number_of(mark),
-            None => WORD_KIND,
-        },
-        TokenClass::Symbol => match mark_of(&text[token.at as usize..token.end as usize]) {
-            Some(mark) => number_of(mark),
-            None => OTHER_KIND,
-        },
+    match mark {
+        Some(mark) => number_of(mark),
+        None => kind,
+    }
+}
+
+/// The kind of a token of this class that is this mark, if it is one.
+pub fn kind_of(class: TokenClass, mark: Option<Mark>) -> u8
+    ensures { result ≡ spec.kind_seen class mark }
+{
+    match class {
+        TokenClass::Word => number_or(WORD_KIND, mark),
+        TokenClass::Symbol => number_or(OTHER_KIND, mark),
         TokenClass::Natural => NATURAL_KIND,
         TokenClass::Negative => NEGATIVE_KIND,
         TokenClass::NameLit => NAME_KIND,

@@ -1,135 +1,166 @@
-//! Terms.
+//! Terms, which are read without recursion: the nodes whose children are still being read stand in a list.
 
-ghost use Rattle.std.specs.Prelude.{◌≡◌};
+ghost use Rattle.std.specs.Prelude.{◌≡◌, ◌≤◌, None, Some, [], ◌∷◌, length, IfOk, MatchOption, OnOk};
+ghost use Rattle.lrc_base.specs.RawTerms.{raw_grown, raw_wanted};
 ghost use Rattle.lrc_reader.specs.Gives.{Gives, GivesAs};
 ghost use Rattle.lrc_reader.specs.Grammar as grammar;
 ghost use Rattle.lrc_reader.specs.Reading as reading;
+ghost use Rattle.lrc_reader.specs.Steps as steps;
 
 use crate::cursor::Cursor;
 use crate::fault::Stop;
 use crate::first::{LITERALS, TERMS};
 use crate::lexeme::{Lexeme, Mark};
-use lrc_base::limits::LEVEL_LIMIT;
-use lrc_base::{List, RawTerm};
-use std::alloc::Global;
+use lrc_base::limits::TERM_LEVEL_LIMIT;
+use lrc_base::{BuildFault, List, Memory, NameText, RawTerm, RawTermBuild, RawTermItem};
+use std::alloc::{AllocError, Global};
 
-/// What a literal is as a term.
-fn literal_value(lexeme: &Lexeme<'_>) -> Option<RawTerm>
-    ensures { result ≡ grammar.literal_term lexeme.now }
+/// A node whose children are still being read.
+#[derive(Debug, Clone, Copy)]
+struct OpenNode {
+    name: NameText,
+    /// How many of its children have been read.
+    children: u32,
+}
+
+/// What was read of a term that has begun.
+#[derive(Debug, Clone, Copy)]
+enum Begun {
+    /// All of it, an item that takes no terms.
+    Ended(RawTermItem),
+    /// The name of a node with children, whose first is to follow.
+    Opened(NameText),
+}
+
+/// What a literal is as an item of a term.
+fn literal_item(lexeme: &Lexeme<'_>) -> Option<RawTermItem>
+    ensures { MatchOption result (grammar.literal_term lexeme.now ≡ None) (λ item. (grammar.literal_term lexeme.now ≡ Some (steps.leaf_of item)) × (raw_wanted item ≡ 0)) }
 {
     match lexeme {
-        Lexeme::Natural(value) | Lexeme::Negative(value) => Some(RawTerm::Int(*value)),
-        Lexeme::Name(name) => Some(RawTerm::Name(*name)),
-        Lexeme::Mark(Mark::True) => Some(RawTerm::Bool(true)),
-        Lexeme::Mark(Mark::False) => Some(RawTerm::Bool(false)),
+        Lexeme::Natural(value) | Lexeme::Negative(value) => Some(RawTermItem::Int(*value)),
+        Lexeme::Name(name) => Some(RawTermItem::Name(*name)),
+        Lexeme::Mark(Mark::True) => Some(RawTermItem::Bool(true)),
+        Lexeme::Mark(Mark::False) => Some(RawTermItem::Bool(false)),
         _ => None,
     }
 }
 
 /// A literal.
 #[tactic(auto, unfolding(crate::specs::Reading::read_leaf), using(crate::proofs::Next::one_took, crate::proofs::Next::one_end, crate::proofs::Next::one_other))]
-fn leaf(cursor: &mut Cursor<'_>) -> Result<RawTerm, Stop>
-    ensures { Gives result cursor.new (reading.read_leaf cursor.old) }
+fn leaf(cursor: &mut Cursor<'_>) -> Result<RawTermItem, Stop>
+    ensures gives { GivesAs steps.leaf_of result cursor.new (reading.read_leaf cursor.old) }
+    ensures alone { IfOk result (λ item. raw_wanted item ≡ 0) }
 {
     let Some(lexeme) = cursor.peek() else {
         return Err(Stop::Expected);
     };
-    let Some(value) = literal_value(&lexeme) else {
+    let Some(item) = literal_item(&lexeme) else {
         return Err(Stop::Expected);
     };
     cursor.advance();
-    Ok(value)
+    Ok(item)
 }
 
-/// One term more, with at most `levels` terms within one another.
-#[cycle(term)]
-#[tactic(auto, unfolding(crate::specs::Reading::read_push_term))]
-fn push_term(
-    alloc: Global,
-    cursor: &mut Cursor<'_>,
-    levels: usize,
-    terms: &mut List<RawTerm>,
-) -> Result<(), Stop>
-    ensures { GivesAs (λ _. terms.new) result cursor.new (reading.read_push_term (reading.read_term_at levels) terms.old cursor.old) }
-{
-    let next = term_at(alloc, cursor, levels)?;
-    terms.push(next)?;
-    Ok(())
-}
-
-/// One term more behind a comma.
-#[cycle(term)]
-#[tactic(auto, unfolding(crate::specs::Reading::read_another_term))]
-fn another_term(
-    alloc: Global,
-    cursor: &mut Cursor<'_>,
-    levels: usize,
-    terms: &mut List<RawTerm>,
-) -> Result<(), Stop>
-    ensures { GivesAs (λ _. terms.new) result cursor.new (reading.read_another_term (reading.read_term_at levels) terms.old cursor.old) }
-{
-    cursor.expect(Mark::Comma)?;
-    push_term(alloc, cursor, levels, terms)
-}
-
-/// One term or more, with commas between.
-#[cycle(term)]
-#[tactic(auto, unfolding(crate::specs::Reading::read_some_terms), using(crate::proofs::Shorter::term_turn, crate::proofs::Shorter::term_stops, crate::proofs::Shorter::term_end, crate::proofs::Shorter::term_shorter))]
-fn some_terms(alloc: Global, cursor: &mut Cursor<'_>, levels: usize) -> Result<List<RawTerm>, Stop>
-    ensures { Gives result cursor.new (reading.read_some_terms (reading.read_term_at levels) cursor.old) }
-{
-    let mut terms = List::new(alloc);
-    push_term(alloc, cursor, levels, &mut terms)?;
-    'more: while cursor.sees(Mark::Comma) {
-        another_term(alloc, cursor, levels, &mut terms)?;
-    }
-    Ok(terms)
-}
-
-/// Any number of terms.
-#[cycle(term)]
-#[tactic(auto, unfolding(crate::specs::Reading::read_any_terms, lrc_parse::specs::Reading::read_either))]
-fn any_terms(alloc: Global, cursor: &mut Cursor<'_>, levels: usize) -> Result<List<RawTerm>, Stop>
-    ensures { Gives result cursor.new (reading.read_any_terms (reading.read_term_at levels) cursor.old) }
-{
-    if cursor.sees_one_of(&TERMS) {
-        return some_terms(alloc, cursor, levels);
-    }
-    Ok(List::new(alloc))
-}
-
-/// A production's name with its children, each of which has at most `levels` terms within one another.
-#[cycle(term)]
-#[tactic(auto, unfolding(crate::specs::Reading::read_tree))]
-fn tree(alloc: Global, cursor: &mut Cursor<'_>, levels: usize) -> Result<RawTerm, Stop>
-    ensures { Gives result cursor.new (reading.read_tree (reading.read_term_at levels) cursor.old) }
+/// A node without children, or the head of one with children.
+#[tactic(auto, unfolding(crate::specs::Steps::read_head, lrc_parse::specs::Reading::read_either))]
+fn head(cursor: &mut Cursor<'_>) -> Result<Begun, Stop>
+    ensures gives { GivesAs steps.start_of result cursor.new (steps.read_head cursor.old) }
+    ensures alone { IfOk result steps.IsAlone }
 {
     let name = cursor.word()?;
     cursor.expect(Mark::LeftParen)?;
-    let children = any_terms(alloc, cursor, levels)?;
+    if cursor.sees_one_of(&TERMS) {
+        return Ok(Begun::Opened(name));
+    }
     cursor.expect(Mark::RightParen)?;
-    Ok(RawTerm::Node(name, children))
+    Ok(Begun::Ended(RawTermItem::Node(name, 0)))
 }
 
-/// A term with at most `levels` terms within one another, itself included.
-#[cycle(term)]
-#[tactic(auto, unfolding(crate::specs::Reading::read_term_at, crate::specs::Reading::read_term_over, lrc_parse::specs::Reading::read_levels, lrc_parse::specs::Reading::read_either, lrc_parse::specs::Reading::read_nothing))]
-fn term_at(alloc: Global, cursor: &mut Cursor<'_>, levels: usize) -> Result<RawTerm, Stop>
-    ensures { Gives result cursor.new (reading.read_term_at levels cursor.old) }
+/// The beginning of a term with at most `levels` terms within one another, itself included.
+#[tactic(auto, unfolding(crate::specs::Steps::read_begin, lrc_parse::specs::Reading::read_either, lrc_parse::specs::Reading::read_nothing, lrc_parse::specs::Reading::read_of))]
+fn begin(cursor: &mut Cursor<'_>, levels: usize) -> Result<Begun, Stop>
+    ensures gives { GivesAs steps.start_of result cursor.new (steps.read_begin levels cursor.old) }
+    ensures alone { IfOk result steps.IsAlone }
 {
     if levels == 0 {
         return Err(cursor.too_deep(&TERMS));
     }
     if cursor.sees_one_of(&LITERALS) {
-        return leaf(cursor);
+        return Ok(Begun::Ended(leaf(cursor)?));
     }
-    tree(alloc, cursor, levels - 1)
+    head(cursor)
 }
 
-/// A term.
-#[tactic(auto, unfolding(crate::specs::Reading::read_term))]
+/// Whether another child follows behind one, or else its node ends.
+#[tactic(auto, unfolding(crate::specs::Steps::read_next, lrc_parse::specs::Reading::read_either))]
+fn another(cursor: &mut Cursor<'_>) -> Result<bool, Stop>
+    ensures { Gives result cursor.new (steps.read_next cursor.old) }
+{
+    if cursor.sees(Mark::Comma) {
+        cursor.expect(Mark::Comma)?;
+        return Ok(true);
+    }
+    cursor.expect(Mark::RightParen)?;
+    Ok(false)
+}
+
+/// Adds an item that finds the terms that it takes.
+fn add(trees: &mut RawTermBuild, item: RawTermItem) -> Result<(), Memory>
+    requires { raw_wanted item ≤ length trees.old }
+    ensures { OnOk result (trees.new ≡ raw_grown trees.old item) }
+{
+    match trees.add(item) {
+        Ok(()) => Ok(()),
+        Err(BuildFault::Memory) => Err(AllocError),
+        Err(BuildFault::TooFew) => unreachable!(),
+    }
+}
+
+/// The one term that was made.
+fn only(trees: RawTermBuild) -> RawTerm
+    requires { length trees ≡ 1 }
+    ensures { trees ≡ result ∷ [] }
+{
+    match trees.finish() {
+        Some(term) => term,
+        None => unreachable!(),
+    }
+}
+
+/// A term, with at most `TERM_LEVEL_LIMIT` terms within one another. The time is linear in its tokens.
 pub fn term(alloc: Global, cursor: &mut Cursor<'_>) -> Result<RawTerm, Stop>
     ensures { Gives result cursor.new (reading.read_term 0 cursor.old) }
 {
-    term_at(alloc, cursor, LEVEL_LIMIT)
+    let mut trees = RawTermBuild::new(alloc);
+    let mut open: List<OpenNode> = List::new(alloc);
+    let mut ended = false;
+    'more: loop {
+        if !ended {
+            match begin(cursor, TERM_LEVEL_LIMIT - open.len())? {
+                Begun::Ended(item) => {
+                    add(&mut trees, item)?;
+                    ended = true;
+                }
+                Begun::Opened(name) => {
+                    open.push(OpenNode { name, children: 0 })?;
+                    ended = false;
+                }
+            }
+        } else {
+            let Some(node) = open.pop() else {
+                return Ok(only(trees));
+            };
+            let children = node.children.checked_add(1).ok_or(Stop::Memory)?;
+            if another(cursor)? {
+                open.push(OpenNode {
+                    name: node.name,
+                    children,
+                })?;
+                ended = false;
+            } else {
+                add(&mut trees, RawTermItem::Node(node.name, children))?;
+                ended = true;
+            }
+        }
+    }
 }

@@ -7,7 +7,7 @@ use Rattle.lrc_base.specs.declared.grammar.Attr.{Attr}
 use Rattle.lrc_base.specs.declared.grammar.Production.{Production}
 use Rattle.lrc_meaning.specs.Tree.{Tree}
 use Rattle.lrc_meaning.specs.Text.{named_values, synthesised_attrs}
-use Rattle.lrc_grammar.proofs.FittingLemmas.{next_left}
+use Rattle.lrc_grammar.proofs.ListLemmas.{next_left}
 use Rattle.lrc_store.specs.Standing.{Standing, Stands}
 use Rattle.lrc_store.specs.declared.cells.Handle.{Handle}
 use Rattle.lrc_call_meaning.specs.Forms.{values_cell}

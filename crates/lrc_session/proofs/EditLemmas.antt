@@ -17,6 +17,7 @@ use Rattle.lrc_session.specs.declared.fault.EditFault.TheVariants as edit
 use Rattle.lrc_session.specs.Faults.{edit_fault}
 use Rattle.lrc_session.specs.Sessions.{grammar, sorts, demands, HasFrames, IsTooDeep, IsOpen, Opens, EditAnswers, Edits}
 use Rattle.lrc_session.specs.Proposals.{IsRootAsked, ProposalAnswers, ProposesPut}
+use Rattle.lrc_session.proofs.DeepLemmas.{too_high, put_high}
 use Rattle.lrc_session.proofs.FaultLemmas.{is_fault}
 use Rattle.lrc_session.proofs.RootLemmas.{root_lacks}
 use Rattle.lrc_session.proofs.SessionLemmas.{still_open, asked_later}
@@ -29,7 +30,8 @@ module _ (functions : Functions) (s t : Standing) (whole : Tree) (vs : List Tree
       → EditAnswers functions s t whole vs mid steps new kind (Err fault)
   refused_answers edit.BadPath a depth has = (a.0, a.1, has)
   refused_answers edit.WrongSort a depth has = (a.0, a.1, has)
-  refused_answers edit.TooDeep a depth has = absurd a
+  refused_answers edit.TooDeep a depth has =
+      (a.0, subst (λ n. IsTooDeep functions n changed) (sym depth) (too_high (grammar functions) before.depth changed (put_high whole new steps a.0.old before.depth a.0.there a.1)), has)
   refused_answers edit.Full a depth has = (a.0, subst (λ n. LacksOne t (demands functions n changed)) (sym depth) a.1, has)
 
   -- the first half was refused

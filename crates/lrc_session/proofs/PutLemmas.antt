@@ -21,6 +21,9 @@ use Rattle.lrc_places.specs.declared.putting.ReplaceFault.{ReplaceFault}
 use Rattle.lrc_places.specs.declared.putting.ReplaceFault.TheVariants as place
 use Rattle.lrc_places.proofs.PlaceLemmas.{named-replaced}
 use Rattle.lrc_places.proofs.DeclaredLemmas.{declared-kind, fits-put}
+use Rattle.lrc_bodies.specs.Bodies.{HasRoom}
+use Rattle.lrc_machine.specs.Machine.{HasLevels}
+use Rattle.lrc_machine.specs.Levels.{slots_of}
 use Rattle.lrc_functions.specs.declared.functions.Functions.{Functions}
 use Rattle.lrc_session.specs.declared.session.Session.{Session}
 use Rattle.lrc_session.specs.declared.fault.EditFault.{EditFault}
@@ -30,7 +33,7 @@ use Rattle.lrc_session.specs.Sessions.{grammar, sorts, demands, IsStartTree, Has
 use Rattle.lrc_session.specs.Proposals.{ProposalAnswers, ProposesPut}
 use Rattle.lrc_session.proofs.FaultLemmas.{is_fault}
 use Rattle.lrc_session.proofs.RootLemmas.{root_spelled, call_demanded, tree_demanded}
-use Rattle.lrc_session.proofs.SessionLemmas.{still_open}
+use Rattle.lrc_session.proofs.SessionLemmas.{same_room, still_open}
 
 module _ (functions : Functions) (whole : Tree) (steps : List ℕ) (new : Tree) (kind : Kind) where
   abbrev prods : List Production
@@ -40,11 +43,11 @@ module _ (functions : Functions) (whole : Tree) (steps : List ℕ) (new : Tree) 
   changed = replaced whole steps new
 
   -- what replacing answers, where the plan's productions were read
-  pub by_plan : (s t : Standing) (root : ℕ) (read : List Production) (answer : Result Handle ReplaceFault) → read ≡ prods → IsStartTree functions whole → Stands s root (tree_cell whole)
-      → ((w : Tree) (sort : Kind) → IsTrue (fits read w sort) → Stands s root (tree_cell w) → Replaces read s t w steps new kind answer) → Replaces prods s t whole steps new kind answer
-  by_plan s t root read answer same fitting stands replaces =
+  pub by_plan : (s t : Standing) (limit root : ℕ) (read : List Production) (answer : Result Handle ReplaceFault) → read ≡ prods → IsStartTree functions whole → Stands s root (tree_cell whole)
+      → ((w : Tree) (sort : Kind) → IsTrue (fits read w sort) → Stands s root (tree_cell w) → Replaces read s t w steps new kind limit answer) → Replaces prods s t whole steps new kind limit answer
+  by_plan s t limit root read answer same fitting stands replaces =
       let start = k.Sort functions.plan.grammar.start in
-      subst (λ ps. Replaces ps s t whole steps new kind answer) same (replaces whole start (subst (λ ps. IsTrue (fits ps whole start)) (sym same) fitting) stands)
+      subst (λ ps. Replaces ps s t whole steps new kind limit answer) same (replaces whole start (subst (λ ps. IsTrue (fits ps whole start)) (sym same) fitting) stands)
 
   -- a tree of the start sort with a part of the place's kind is of the start sort
   pub changed_fits : IsStartTree functions whole → IsPlace prods whole steps kind → IsTrue (fits prods new kind) → IsStartTree functions changed
@@ -63,24 +66,28 @@ module _ (functions : Functions) (whole : Tree) (steps : List ℕ) (new : Tree) 
     call_needed = call_demanded (grammar functions) (sorts functions) limit changed
 
     -- where nothing was replaced
-    place_answers : (s t : Standing) (fault : ReplaceFault) → ReplaceAnswers prods s t whole steps new kind (Err fault) → ProposalAnswers functions s t limit whole steps new kind (Err (place_fault fault))
+    place_answers : (s t : Standing) (fault : ReplaceFault) → ReplaceAnswers prods s t whole steps new kind limit (Err fault) → ProposalAnswers functions s t limit whole steps new kind (Err (place_fault fault))
     place_answers s t place.BadPath a = a
+    place_answers s t place.TooHigh a = a
     place_answers s t place.WrongSort a = a
-    place_answers s t place.Full a = (a.0, lacks-more t (parts_of (tree_cell changed)) needed tree_needed a.1)
+    place_answers s t place.Full a = (a.0, lacks-more t (parts_of (tree_cell changed)) needed tree_needed a.2)
 
   module _ (s : Standing) (vs : List Tree) (before after : Session) (h : IsOpen functions s before whole vs) (tree : after.tree ≡ before.tree) (values : after.values ≡ before.values)
-      (depth : after.depth ≡ before.depth) (runs : after.runs ≡ before.runs) (frames : after.frames ≡ before.frames) where
+      (depth : after.depth ≡ before.depth) (runs : after.runs ≡ before.runs) (levels : after.frames.levels ≡ before.frames.levels)
+      (room : after.frames.stack.room ≡ before.frames.stack.room) where
     abbrev limit : ℕ
     limit = before.depth
 
     same_frames : HasFrames functions after.frames after.depth
-    same_frames = subst (HasFrames functions after.frames) (sym depth) (subst (λ f. HasFrames functions f before.depth) (sym frames) h.frames)
+    same_frames =
+        subst (HasFrames functions after.frames) (sym depth)
+        (same_room functions before.frames after.frames before.depth (subst (λ l. HasLevels (λ frame. HasRoom functions.counts frame.items) (slots_of l) before.depth) (sym levels) h.frames.levels) room h.frames)
 
     open_after : (t : Standing) → Keeps s t → IsOpen functions t after whole vs
     open_after t keeps = still_open functions s t whole vs before after keeps tree values depth same_frames h
 
     -- the place is none for the part, or the store is full
-    pub stopped_at_place : (t : Standing) (fault : ReplaceFault) (answer : Result Handle EditFault) → IsErrAnd answer (λ e. e ≡ place_fault fault) → Replaces prods s t whole steps new kind (Err fault)
+    pub stopped_at_place : (t : Standing) (fault : ReplaceFault) (answer : Result Handle EditFault) → IsErrAnd answer (λ e. e ≡ place_fault fault) → Replaces prods s t whole steps new kind limit (Err fault)
         → ProposesPut functions s t whole vs before after steps new kind answer
     stopped_at_place t fault answer is did = record {
       adds = adds-more s t (parts_of (tree_cell changed)) (needed limit) (tree_needed limit) did.adds;
@@ -90,9 +97,9 @@ module _ (functions : Functions) (whole : Tree) (steps : List ℕ) (new : Tree) 
       answers = subst (ProposalAnswers functions s t limit whole steps new kind) (sym (is_fault answer (place_fault fault) is)) (place_answers limit s t fault did.answers);
     }
 
-    module _ (t u : Standing) (root : Handle) (did : Replaces prods s t whole steps new kind (Ok root)) where
+    module _ (t u : Standing) (root : Handle) (did : Replaces prods s t whole steps new kind limit (Ok root)) where
       pub root_stands : Stands t root.0 (tree_cell changed)
-      root_stands = did.answers.1.stands
+      root_stands = did.answers.2.stands
 
       adds_both : (answer : Result Handle Full) → Builds t u (call_form (root_call changed)) answer → Adds s u (needed limit)
       adds_both answer built =

@@ -1,5 +1,5 @@
 -- What an open session keeps while its store goes on, and how a session is opened with what its root's visit gives.
-use Rattle.std.proofs.Common.{◌≡◌, ℕ, List, sym, subst, refl}
+use Rattle.std.proofs.Common.{◌≡◌, ℕ, List, sym, subst, refl, ap, ◌∙◌}
 use Rattle.lrc_meaning.specs.Tree.{Tree}
 use Rattle.lrc_meaning.specs.Attribution.{Attributes}
 use Rattle.lrc_visit_meaning.specs.Values.{root_call}
@@ -8,6 +8,10 @@ use Rattle.lrc_store.specs.Words.{Keeps, Lasts}
 use Rattle.lrc_code.specs.Forms.{tree_cell}
 use Rattle.lrc_eval.proofs.CellLemmas.{told-lasts}
 use Rattle.lrc_call_meaning.specs.Forms.{values_cell, call_form}
+use Rattle.lrc_bodies.specs.Bodies.{HasRoom}
+use Rattle.lrc_bodies.specs.declared.frames.Frames.{Frames}
+use Rattle.lrc_machine.specs.Machine.{HasLevels}
+use Rattle.lrc_machine.specs.Levels.{slots_of}
 use Rattle.lrc_functions.specs.declared.functions.Functions.{Functions}
 use Rattle.lrc_session.specs.declared.session.Session.{Session}
 use Rattle.lrc_session.specs.declared.proposal.Proposal.{Proposal}
@@ -16,6 +20,15 @@ use Rattle.lrc_session.specs.Proposals.{IsRootAsked, IsRootGiven, IsProposal}
 use Rattle.lrc_session.proofs.RootLemmas.{root_gives}
 
 module _ (functions : Functions) where
+  -- frames that a visit or a put went over
+  pub same_room : (before after : Frames) (depth : ℕ) → HasLevels (λ frame. HasRoom functions.counts frame.items) (slots_of after.levels) depth → after.stack.room ≡ before.stack.room
+      → HasFrames functions before depth → HasFrames functions after depth
+  same_room before after depth levels room h = record { levels = levels; stack = room ∙ h.stack }
+
+  pub visited_frames : (before after : Frames) (depth : ℕ) → HasLevels (λ frame. HasRoom functions.counts frame.items) (slots_of after.levels) depth → after.stack ≡ before.stack
+      → HasFrames functions before depth → HasFrames functions after depth
+  visited_frames before after depth levels stack h = same_room before after depth levels (ap (λ s. s.room) stack) h
+
   -- a session with the same tree, values and depth is open later too
   pub still_open : (s u : Standing) (t : Tree) (vs : List Tree) (before after : Session) → Keeps s u → after.tree ≡ before.tree → after.values ≡ before.values → after.depth ≡ before.depth
       → HasFrames functions after.frames after.depth → IsOpen functions s before t vs → IsOpen functions u after t vs

@@ -20,3 +20,4 @@ abbrev pub place_fault : ReplaceFault → EditFault
 place_fault place.BadPath = edit.BadPath
 place_fault place.WrongSort = edit.WrongSort
 place_fault place.Full = edit.Full
+place_fault place.TooHigh = edit.TooDeep

@@ -1,7 +1,7 @@
 -- The halves of opening a session and of a put: what is there before the root's visit, and what its result leaves.
-use Rattle.std.specs.Prelude.{ℕ, ◌≡◌, List, None, Result, Ok, Err}
+use Rattle.std.specs.Prelude.{ℕ, ◌≡◌, ◌<◌, ◌≤◌, List, None, Result, Ok, Err}
 use Rattle.lrc_base.specs.declared.grammar.Kind.{Kind}
-use Rattle.lrc_meaning.specs.Tree.{Tree, at_place, replaced}
+use Rattle.lrc_meaning.specs.Tree.{Tree, at_place, replaced, tree_height}
 use Rattle.lrc_visit_meaning.specs.Values.{root_call}
 use Rattle.lrc_store.specs.Standing.{Standing}
 use Rattle.lrc_store.specs.Words.{Adds, LacksOne, Reads}
@@ -32,12 +32,13 @@ module _ (functions : Functions) where
     pub frames : HasFrames functions proposal.frames proposal.depth
 
   -- What the first half of a put is answered: a handle of the root's call of the changed tree; or that the path names no
-  -- place, that what stands there is of another kind, or that the store is full.
+  -- place, that what stands there is of another kind, that the part is higher than the limit, where the store was only read,
+  -- or that the store is full.
   abbrev pub ProposalAnswers : Standing → Standing → ℕ → Tree → List ℕ → Tree → Kind → Result Handle EditFault → Type 0
   ProposalAnswers s t limit whole steps new kind (Ok call) = IsPlace functions.plan.grammar.prods whole steps kind × IsRootAsked t (replaced whole steps new) call.0
   ProposalAnswers s t limit whole steps new kind (Err fault.BadPath) = (at_place whole steps ≡ None) × Reads s t
   ProposalAnswers s t limit whole steps new kind (Err fault.WrongSort) = IsOtherPlace functions.plan.grammar.prods whole steps kind × Reads s t
-  ProposalAnswers s t limit whole steps new kind (Err fault.TooDeep) = ⊥
+  ProposalAnswers s t limit whole steps new kind (Err fault.TooDeep) = IsPlace functions.plan.grammar.prods whole steps kind × (limit < tree_height new) × Reads s t
   ProposalAnswers s t limit whole steps new kind (Err fault.Full) = IsPlace functions.plan.grammar.prods whole steps kind × LacksOne t (demands functions limit (replaced whole steps new))
 
   -- The first half of a put leaves the session's tree and its attributes; at most rows of what the changed tree demands are

@@ -23,7 +23,7 @@ use Rattle.lrc_call_meaning.specs.Reached.{cells_of}
 use Rattle.lrc_call_meaning.specs.Spelled.{IsSpelled}
 use Rattle.lrc_places.specs.Replacing.{IsPlace, IsOtherPlace}
 use Rattle.lrc_functions.specs.declared.functions.Functions.{Functions}
-use Rattle.lrc_bodies.specs.Bodies.{HasRoom}
+use Rattle.lrc_bodies.specs.Bodies.{HasRoom, stack_room}
 use Rattle.lrc_bodies.specs.Counting.{MeetsCall}
 use Rattle.lrc_bodies.specs.declared.frames.Frames.{Frames}
 use Rattle.lrc_machine.specs.Counts.{IsCellOf}
@@ -48,9 +48,11 @@ module _ (functions : Functions) where
   abbrev pub IsStartTree : Tree → Type 0
   IsStartTree t = IsTrue (fits functions.plan.grammar.prods t (k.Sort functions.plan.grammar.start))
 
-  -- there are so many levels of frames, each with room for the items of each production
-  abbrev pub HasFrames : Frames → ℕ → Type 0
-  HasFrames frames depth = HasLevels (λ frame. HasRoom functions.counts frame.items) (slots_of frames.levels) depth
+  -- there are so many levels of frames, each with room for the items of each production, and the stack has room for the
+  -- parts of a term with so many nodes on its longest path
+  pub record HasFrames (frames : Frames) (depth : ℕ) : Type 0 where
+    pub levels : HasLevels (λ frame. HasRoom functions.counts frame.items) (slots_of frames.levels) depth
+    pub stack : frames.stack.room ≡ stack_room depth
 
   -- the cells that an attempt at a tree demands
   abbrev pub demands : ℕ → Tree → List CellTree

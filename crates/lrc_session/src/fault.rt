@@ -95,6 +95,7 @@ impl From<ReplaceFault> for EditFault {
             ReplaceFault::BadPath => EditFault::BadPath,
             ReplaceFault::WrongSort => EditFault::WrongSort,
             ReplaceFault::Full => EditFault::Full,
+            ReplaceFault::TooHigh => EditFault::TooDeep,
         }
     }
 }

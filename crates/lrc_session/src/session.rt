@@ -1,6 +1,6 @@
 ghost use Rattle.std.specs.Borrow.{sem};
-ghost use Rattle.std.specs.Prelude.{◌≡◌, ◌≢◌, ◌-◌, ◌<◌, List, Some, Err, IfOk, OnErr, length, slice_get, IsTrue};
-ghost use Rattle.lrc_meaning.specs.Tree.{Tree, tree, fits, replaced};
+ghost use Rattle.std.specs.Prelude.{◌≡◌, ◌-◌, ◌<◌, List, Some, Err, IfOk, OnErr, length, slice_get, IsTrue};
+ghost use Rattle.lrc_meaning.specs.Tree.{Tree, tree, fits, replaced, tree_height};
 ghost use Rattle.lrc_store.specs.Standing.{Stands};
 ghost use Rattle.lrc_store.specs.Words.{Adds, Gains, LacksOne, Reads};
 ghost use Rattle.lrc_code.specs.Forms.{tree_cell};
@@ -46,7 +46,8 @@ impl Session {
     ///
     /// # Errors
     ///
-    /// Memory, and Full only where all rows are used and a cell of what the tree demands is in none.
+    /// TooDeep exactly where the tree has more nodes on its longest path than the depth: it has no
+    /// attributes within the depth then, and nothing is put; Memory; and Full only where all rows are used and a cell of what the tree demands is in none.
     pub fn propose<St: Store<M = VisitMeaning>>(
         alloc: Global,
         store: &mut St,
@@ -60,13 +61,17 @@ impl Session {
         ensures depth { IfOk result (λ proposal. proposal.depth ≡ depth) }
         ensures missed { IfOk result (λ proposal. proposal.missed ≡ (St.state store.old).missed) }
         ensures full { result ≡ Err start.Full → LacksOne (St.state store.new) (demands functions.now depth (tree term.now)) }
-        ensures not_deep { result ≢ Err start.TooDeep }
+        ensures too_deep { result ≡ Err start.TooDeep → depth < tree_height (tree term.now) }
+        ensures high { depth < tree_height (tree term.now) → (result ≡ Err start.TooDeep) × (St.state store.new ≡ St.state store.old) }
         ensures same_meaning { St.meaning store.new ≡ St.meaning store.old }
     {
+        if term.height() > depth {
+            return Err(StartFault::TooDeep);
+        }
         term_is_spelled(term);
-        let frames = Frames::new(alloc, functions, depth)?;
+        let mut frames = Frames::new(alloc, functions, depth)?;
         let missed = store.missed();
-        let root = put_term(store, term)?;
+        let root = put_term(store, term, &mut frames.stack)?;
         let call = put_root_call(store, root)?;
         Ok(Proposal {
             frames,
@@ -108,8 +113,9 @@ impl Session {
     ///
     /// # Errors
     ///
-    /// TooDeep only where the tree has no attributes within the depth; Full only where all rows are
-    /// used and a cell of what the tree demands is in none; and Memory.
+    /// TooDeep only where the tree has no attributes within the depth, and before anything is put where
+    /// it has more nodes on its longest path; Full only where all rows are used and a cell of what the
+    /// tree demands is in none; and Memory.
     pub fn start<St: Store<M = VisitMeaning>>(
         alloc: Global,
         store: &mut St,
@@ -122,6 +128,7 @@ impl Session {
         ensures gains { Gains (St.state store.old) (St.state store.new) (demands functions.now depth (tree term.now)) }
         ensures opens { IfOk result (λ session. Opens functions.now (St.state store.new) depth (tree term.now) session) }
         ensures too_deep { result ≡ Err start.TooDeep → IsTooDeep functions.now depth (tree term.now) }
+        ensures high { depth < tree_height (tree term.now) → (result ≡ Err start.TooDeep) × (St.state store.new ≡ St.state store.old) }
         ensures full { result ≡ Err start.Full → LacksOne (St.state store.new) (demands functions.now depth (tree term.now)) }
         ensures runs { IfOk result (λ session. session.runs ≡ (St.state store.new).missed - (St.state store.old).missed) }
         ensures whole { IsWhole (grammar functions.now) (sorts functions.now) (St.state store.old).memo → IsWhole (grammar functions.now) (sorts functions.now) (St.state store.new).memo }
@@ -139,8 +146,9 @@ impl Session {
     /// # Errors
     ///
     /// BadPath exactly where the path names no place; WrongSort exactly where what stands there is of
-    /// another kind; and Full only where all rows are used and a cell of what the changed tree demands
-    /// is in none.
+    /// another kind; else TooDeep exactly where the part has more nodes on its longest path than the
+    /// session's depth, before anything is put; and Full only where all rows are used and a cell of what
+    /// the changed tree demands is in none.
     pub fn propose_put<St: Store<M = VisitMeaning>>(
         &mut self,
         store: &mut St,
@@ -156,7 +164,14 @@ impl Session {
         term_is_spelled(put.term);
         self.missed = store.missed();
         let prods = functions.plan.grammar.prods.as_slice();
-        let whole = replace(store, prods, self.tree, put)?;
+        let whole = replace(
+            store,
+            prods,
+            self.tree,
+            put,
+            self.depth,
+            &mut self.frames.stack,
+        )?;
         Ok(put_root_call(store, whole)?)
     }
 
@@ -214,8 +229,8 @@ impl Session {
         Ok(())
     }
 
-    /// The frames, for the visit between the halves of a put. Whoever writes to them keeps their levels
-    /// and the room of each.
+    /// The frames, for the visit between the halves of a put. Whoever writes to them keeps their levels,
+    /// the room of each, and that of the stack.
     pub fn frames(&mut self) -> &mut Frames
         ensures* writes_back { sem 𝓛 (LendsFrames self.entry result) }
         ensures value { result.now ≡ self.old.frames }

@@ -1,15 +1,16 @@
 //! A sum, names and truth values as cells of a plain store, and what is read back of calls, results and nodes.
 
-ghost use Rattle.std.specs.Prelude.{IfOk, IsTrue};
+ghost use Rattle.std.specs.Prelude.{◌≡◌, ◌≤◌, IfOk};
 ghost use Rattle.lrc_store.specs.Cells.{nil};
 ghost use Rattle.lrc_store.specs.Words.{Tells};
 ghost use Rattle.lrc_meaning.specs.Tree.{tree};
-ghost use Rattle.lrc_code.specs.Forms.{are_productions_below};
+ghost use Rattle.lrc_store_tests.specs.Sums.{one_and_two};
 
-use lrc_base::{List, NameText, Term};
+use crate::terms::term_of;
+use lrc_base::{NameText, Term, TermItem};
 use lrc_code::{
-    CallParts, ResultParts, call_parts, kid_of, production_of, put_bool, put_call, put_list,
-    put_name, put_node, put_result, put_term, result_parts,
+    CallParts, Handles, ResultParts, call_parts, kid_of, production_of, put_bool, put_call,
+    put_list, put_name, put_node, put_result, put_term, result_parts,
 };
 use lrc_plain::PlainStore;
 use lrc_store::{Full, Handle, Store};
@@ -20,24 +21,27 @@ const NUM: u32 = 0;
 
 const ADD: u32 = 1;
 
-/// `Num(value)`
-#[tactic(auto, using(lrc_meaning::proofs::TreeLemmas::tree_equations))]
-fn num(alloc: Global, value: i64) -> Result<Term, Fail>
-    ensures { IfOk result (λ term. IsTrue (are_productions_below 65280 (tree term))) }
+/// `Add(Num(1), Num(2))`
+fn sum(alloc: Global) -> Result<Term, Fail>
+    ensures { IfOk result (λ term. tree term ≡ one_and_two) }
 {
-    let kids = vec![in alloc; Term::Int(value)]?;
-    Ok(Term::Node(NUM, List::from_vec(kids)))
+    let items = [
+        TermItem::Int(1),
+        TermItem::Node(NUM, 1),
+        TermItem::Int(2),
+        TermItem::Node(NUM, 1),
+        TermItem::Node(ADD, 2),
+    ];
+    term_of(alloc, &items)
 }
 
-/// `Add(Num(1), Num(2))`
-#[tactic(auto, using(lrc_meaning::proofs::TreeLemmas::tree_equations))]
-fn sum(alloc: Global) -> Result<Term, Fail>
-    ensures { IfOk result (λ term. IsTrue (are_productions_below 65280 (tree term))) }
+/// A handle of `Add(Num(1), Num(2))`, which takes nine rows.
+fn put_sum<S: Store>(store: &mut S, term: &Term, stack: &mut Handles) -> Result<Handle, Full>
+    requires sum { tree term.now ≡ one_and_two }
+    requires room { 16 ≤ stack.old.room }
+    ensures { stack.new.room ≡ stack.old.room }
 {
-    let one = num(alloc, 1)?;
-    let two = num(alloc, 2)?;
-    let kids = vec![in alloc; one, two]?;
-    Ok(Term::Node(ADD, List::from_vec(kids)))
+    put_term(store, term, stack)
 }
 
 /// The handle of nil, which is known in every store.
@@ -78,8 +82,9 @@ fn parts_of_a_node<S: Store>(store: &mut S) -> Result<(u32, bool), Full> {
 fn a_tree_put_twice_has_one_handle(rt: HostRuntime) -> Result<(), Fail> {
     let term = sum(rt.alloc())?;
     let mut store = PlainStore::new(rt.alloc(), 9)?;
-    let first = put_term(&mut store, &term).ok();
-    let again = put_term(&mut store, &term).ok();
+    let mut stack = Handles::with_room(rt.alloc(), 16)?;
+    let first = put_sum(&mut store, &term, &mut stack).ok();
+    let again = put_sum(&mut store, &term, &mut stack).ok();
     assert!(rt; first.is_some());
     assert!(rt; first == again);
     assert_eq!(rt; store.published(), 9);
@@ -90,7 +95,8 @@ fn a_tree_put_twice_has_one_handle(rt: HostRuntime) -> Result<(), Fail> {
 fn the_ninth_row_of_eight_is_refused(rt: HostRuntime) -> Result<(), Fail> {
     let term = sum(rt.alloc())?;
     let mut store = PlainStore::new(rt.alloc(), 8)?;
-    let refused = put_term(&mut store, &term).is_err();
+    let mut stack = Handles::with_room(rt.alloc(), 16)?;
+    let refused = put_sum(&mut store, &term, &mut stack).is_err();
     assert!(rt; refused);
     assert_eq!(rt; store.published(), 8);
     Ok(())

@@ -8,13 +8,13 @@
 #[cfg(test)]
 mod cells;
 #[cfg(test)]
-mod copies;
-#[cfg(test)]
 mod layouts;
 #[cfg(test)]
 mod memo_words;
 #[cfg(test)]
 mod paths;
+#[cfg(test)]
+mod raw_terms;
 #[cfg(test)]
 mod remembered;
 #[cfg(test)]
@@ -25,5 +25,7 @@ mod std_streams;
 mod streams;
 #[cfg(test)]
 mod sums;
+#[cfg(test)]
+mod terms;
 #[cfg(test)]
 mod threads;

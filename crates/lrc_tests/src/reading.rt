@@ -1,7 +1,9 @@
 //! The whole notation, each limit, what is nested too deep, and the first fault of other texts.
 
 use crate::jobs::{copies_of, joined};
-use lrc_base::{Job, Op, RawEdit, RawExpr, RawItem, RawKind, RawPiece, RawProd, RawTerm};
+use lrc_base::{
+    Job, Op, RawEdit, RawExpr, RawItem, RawKind, RawPiece, RawProd, RawTerm, RawTermItem,
+};
 use lrc_lex::LexFault;
 use lrc_reader::{JobFault, Limit, read_job};
 use std::alloc::{AllocError, Global};
@@ -77,17 +79,25 @@ fn is_first(prod: &RawProd) -> bool {
     }
 }
 
+/// Whether the term is the number 7.
+fn is_seven(term: &RawTerm) -> bool {
+    match term.items().as_slice() {
+        [RawTermItem::Int(value)] => *value == 7,
+        _ => false,
+    }
+}
+
 /// Whether the edits are those of the notation.
 fn are_edits(edits: &[RawEdit]) -> bool {
     match edits {
         [
-            RawEdit::Put(place, RawTerm::Int(value)),
+            RawEdit::Put(place, term),
             RawEdit::Copy(from, to),
             RawEdit::Show,
             RawEdit::Forget(count),
         ] => {
             place.steps.as_slice() == b"\x01\x00".as_slice()
-                && *value == 7
+                && is_seven(term)
                 && from.steps.as_slice() == b"\x01".as_slice()
                 && to.steps.is_empty()
                 && *count == 12

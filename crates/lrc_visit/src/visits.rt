@@ -152,6 +152,7 @@ pub fn visit<St: Store<M = VisitMeaning>>(
     ensures full { (c : Call) → IsAsked (St.state store.old) c call.0 → result ≡ Err fault.Full → LacksOne (St.state store.new) (cells_of (reach (grammar_of functions.now.plan.grammar) functions.now.plan.parts.sorts fuel c)) }
     ensures too_deep { (c : Call) → IsAsked (St.state store.old) c call.0 → result ≡ Err fault.TooDeep → plain_visit (grammar_of functions.now.plan.grammar) functions.now.plan.parts.sorts fuel c ≡ None }
     ensures levels { HasLevels (λ frame. HasRoom functions.now.counts frame.items) (slots_of frames.new.levels) fuel }
+    ensures stack { frames.new.stack ≡ frames.old.stack }
     ensures whole { IsWhole (grammar_of functions.now.plan.grammar) functions.now.plan.parts.sorts (St.state store.old).memo → IsWhole (grammar_of functions.now.plan.grammar) functions.now.plan.parts.sorts (St.state store.new).memo }
     ensures counted { (c : Call) → IsAsked (St.state store.old) c call.0 → IsWhole (grammar_of functions.now.plan.grammar) functions.now.plan.parts.sorts (St.state store.old).memo → IfOk result (λ _. Counted (St.state store.old) (St.state store.new) (IsCellOf call_form (MeetsCall (grammar_of functions.now.plan.grammar) functions.now.plan.parts.sorts fuel c))) }
     ensures same_meaning { St.meaning store.new ≡ St.meaning store.old }

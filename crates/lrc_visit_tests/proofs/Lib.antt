@@ -1,2 +1,3 @@
 pub mod NodeLemmas
 pub mod SessionLemmas
+pub mod TermLemmas

@@ -25,4 +25,6 @@ mod putting;
 #[cfg(test)]
 mod sessions;
 #[cfg(test)]
+mod terms;
+#[cfg(test)]
 mod texts;

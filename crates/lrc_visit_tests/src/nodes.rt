@@ -7,8 +7,9 @@ ghost use Rattle.lrc_plain.specs.Plain.{state_of};
 ghost use Rattle.lrc_eval.specs.Evaluating.{IsNode};
 ghost use Rattle.lrc_visit_tests.specs.Nodes.{num_five, over_five, ReadsNum};
 
-use lrc_base::{Expr, List, Term};
-use lrc_code::put_term;
+use crate::terms::term_of;
+use lrc_base::{Expr, Term, TermItem};
+use lrc_code::{Handles, put_term};
 use lrc_eval::{Val, evaluate};
 use lrc_plain::PlainStore;
 use lrc_store::{Full, Handle, NoMeaning, Store};
@@ -19,20 +20,19 @@ use std::test::Fail;
 pub(crate) const NUM: u32 = 0;
 
 /// `Num(5)`
-#[tactic(auto, using(lrc_meaning::proofs::TreeLemmas::tree_equations))]
-fn num_five(alloc: Global) -> Result<Term, Fail>
+pub(crate) fn num_five(alloc: Global) -> Result<Term, Fail>
     ensures { IfOk result (λ term. tree term ≡ num_five) }
 {
-    let kids = vec![in alloc; Term::Int(5)]?;
-    Ok(Term::Node(NUM, List::from_vec(kids)))
+    term_of(alloc, &[TermItem::Int(5), TermItem::Node(NUM, 1)])
 }
 
 /// A handle of the node `Num(5)`, which takes three rows: its number, the list of that, and the node.
-fn put_five<S: Store>(store: &mut S, term: &Term) -> Result<Handle, Full>
-    requires { tree term.now ≡ num_five }
+fn put_five<S: Store>(store: &mut S, term: &Term, stack: &mut Handles) -> Result<Handle, Full>
+    requires five { tree term.now ≡ num_five }
+    requires room { 8 ≤ stack.old.room }
     ensures { IfOk result (λ node. IsNode (S.state store.new) node over_five) }
 {
-    put_term(store, term)
+    put_term(store, term, stack)
 }
 
 /// A store of so many rows with the node `Num(5)`, which this term is.
@@ -47,7 +47,8 @@ fn store_with(
     ensures { IfOk result (λ made. IsNode (state_of made.0) made.1 over_five) }
 {
     let mut store = PlainStore::new(alloc, rows)?;
-    let node = put_five(&mut store, term).ok().ok_or("full")?;
+    let mut stack = Handles::with_room(alloc, 8)?;
+    let node = put_five(&mut store, term, &mut stack).ok().ok_or("full")?;
     Ok((store, node))
 }
 

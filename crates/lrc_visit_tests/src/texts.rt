@@ -4,6 +4,7 @@ ghost use Rattle.std.specs.Prelude.{IsTrue};
 ghost use Rattle.lrc_job.specs.Fitting.{script_fits};
 
 use crate::jobs::{accepted, only};
+use crate::terms::stack_for;
 use lrc_base::{Bytes, Script};
 use lrc_code::put_term;
 use lrc_grammar::Grammar;
@@ -28,7 +29,10 @@ fn both_texts(alloc: Global, grammar: &Grammar, script: &Script) -> Result<(Byte
     requires { IsTrue (script_fits grammar.now.prods grammar.now.start script.now) }
 {
     let mut store = PlainStore::new(alloc, 100)?;
-    let tree = put_term(&mut store, &script.tree).ok().ok_or("full")?;
+    let mut stack = stack_for(alloc, &script.tree)?;
+    let tree = put_term(&mut store, &script.tree, &mut stack)
+        .ok()
+        .ok_or("full")?;
     let text = unparse(alloc, &mut store, grammar, tree)?;
     Ok((text, value_text(alloc, &mut store, grammar, tree)?))
 }

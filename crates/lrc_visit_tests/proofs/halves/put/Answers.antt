@@ -1,7 +1,10 @@
 use Rattle.std.proofs.Common.{sym, subst}
 use Rattle.lrc_meaning.specs.Tree.{tree, replaced}
 use Rattle.lrc_visit_meaning.specs.Values.{root_call}
-use Rattle.lrc_session.specs.Sessions.{HasFrames}
+use Rattle.lrc_bodies.specs.Bodies.{HasRoom}
+use Rattle.lrc_machine.specs.Machine.{HasLevels}
+use Rattle.lrc_machine.specs.Levels.{slots_of}
+use Rattle.lrc_bodies.specs.declared.frames.Frames.{Frames}
 use Rattle.lrc_session.proofs.SessionLemmas.{asked_later}
 use Rattle.lrc_visit_tests.proofs.halves.put.Goals as goal
 
@@ -9,7 +12,7 @@ pub visit-requires-clause-levels : goal.visit-requires-clause-levels
 visit-requires-clause-levels g c =
     let (whole, vs, has) = c.requires.session in
     let mid = c.propose_put.new.self in
-    subst (λ frames. HasFrames c.args.functions.now frames mid.depth) (sym c.frames.ensures.value) (c.in_ok-call.ensures.proposes whole vs has).is_open.frames
+    subst (λ (frames : Frames). HasLevels (λ frame. HasRoom c.args.functions.now.counts frame.items) (slots_of frames.levels) mid.depth) (sym c.frames.ensures.value) (c.in_ok-call.ensures.proposes whole vs has).is_open.frames.levels
 
 pub settle-requires-clause-call : goal.settle-requires-clause-call
 settle-requires-clause-call g c =

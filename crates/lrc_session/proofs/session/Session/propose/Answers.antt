@@ -1,17 +1,67 @@
+use Rattle.std.proofs.Common.{arith}
 use Rattle.lrc_base.specs.declared.grammar.Kind.TheVariants as k
 use Rattle.lrc_meaning.specs.Tree.{tree}
+use Rattle.lrc_meaning.proofs.HeightLemmas.{height_agrees}
 use Rattle.lrc_visit_meaning.specs.Values.{root_call}
 use Rattle.lrc_store.specs.Cells.{parts}
 use Rattle.lrc_store.proofs.Lasting.{adds-then, adds-more, lacks-more}
 use Rattle.lrc_code.specs.Forms.{tree_cell}
 use Rattle.lrc_call_meaning.specs.Forms.{call_form}
-use Rattle.lrc_places.proofs.PlaceLemmas.{productions-below}
+use Rattle.lrc_places.proofs.PlaceLemmas.{productions-below, children-few}
 use Rattle.lrc_session.specs.Sessions.{grammar, sorts, demands}
 use Rattle.lrc_session.proofs.RootLemmas.{few_productions, call_demanded, tree_demanded}
 use Rattle.lrc_session.proofs.session.Session.propose.Goals as goal
 
-pub put_term-requires : goal.put_term-requires
-put_term-requires g c =
+pub returns-then-height-depth-clause-too_deep : goal.returns-then-height-depth-clause-too_deep
+returns-then-height-depth-clause-too_deep g c e =
+    let same = height_agrees c.args.term.now in
+    let is = c.height.ensures in
+    let test = c.if-height-depth.true in
+    omega (arith, same, is, test)
+
+pub returns-in_err-frames-clause-high : goal.returns-in_err-frames-clause-high
+returns-in_err-frames-clause-high g c high =
+    let same = height_agrees c.args.term.now in
+    let is = c.height.ensures in
+    let test = c.if-height-depth.false in
+    absurd (omega (arith, same, is, test, high))
+
+pub returns-in_err-root-clause-high : goal.returns-in_err-root-clause-high
+returns-in_err-root-clause-high g c high =
+    let same = height_agrees c.args.term.now in
+    let is = c.height.ensures in
+    let test = c.if-height-depth.false in
+    absurd (omega (arith, same, is, test, high))
+
+pub returns-in_err-call-clause-high : goal.returns-in_err-call-clause-high
+returns-in_err-call-clause-high g c high =
+    let same = height_agrees c.args.term.now in
+    let is = c.height.ensures in
+    let test = c.if-height-depth.false in
+    absurd (omega (arith, same, is, test, high))
+
+pub returns-clause-high : goal.returns-clause-high
+returns-clause-high g c high =
+    let same = height_agrees c.args.term.now in
+    let is = c.height.ensures in
+    let test = c.if-height-depth.false in
+    absurd (omega (arith, same, is, test, high))
+
+pub put_term-requires-clause-few : goal.put_term-requires-clause-few
+put_term-requires-clause-few g c =
+    let functions = c.args.functions.now in
+    children-few functions.plan.grammar.prods functions.plan.grammar.few.parts (tree c.args.term.now) (k.Sort functions.plan.grammar.start) c.requires.tree
+
+pub put_term-requires-clause-room : goal.put_term-requires-clause-room
+put_term-requires-clause-room g c =
+    let same = height_agrees c.args.term.now in
+    let is = c.height.ensures in
+    let test = c.if-height-depth.false in
+    let room = c.in_ok-frames.ensures.stack in
+    omega (arith, same, is, test, room)
+
+pub put_term-requires-clause-below : goal.put_term-requires-clause-below
+put_term-requires-clause-below g c =
     let functions = c.args.functions.now in
     productions-below functions.plan.grammar.prods 65280 (few_productions (grammar functions) functions.plan.grammar.few) (tree c.args.term.now) (k.Sort functions.plan.grammar.start) c.requires.tree
 

@@ -1,6 +1,7 @@
 use Rattle.std.proofs.Common.{refl}
 use Rattle.lrc_meaning.specs.Tree.{tree}
 use Rattle.lrc_visit_meaning.specs.Values.{root_call}
+use Rattle.lrc_session.proofs.SessionLemmas.{visited_frames}
 use Rattle.lrc_session.proofs.EditLemmas.{changed, refused, asked, unvisited, asked_on, edited}
 use Rattle.lrc_session.proofs.session.Session.put.Goals as goal
 
@@ -25,7 +26,8 @@ returns-in_err-given-clause-edits g c whole vs has =
     let call = root_call (changed functions s t whole vs before mid steps new put.kind) in
     let there = asked functions s t whole vs before mid steps new put.kind c.in_ok-call.call first in
     let visited = c.in_err-given.ensures in
-    unvisited functions s t whole vs before mid steps new put.kind c.in_ok-call.call first u _ (visited.gains call there.asked) refl refl refl visited.levels
+    unvisited functions s t whole vs before mid steps new put.kind c.in_ok-call.call first u _ (visited.gains call there.asked) refl refl refl
+    (visited_frames functions mid.frames c.visit.new.frames mid.depth visited.levels visited.stack first.is_open.frames)
     c.in_err-given.field-0.0 c.from_residual-in_err-given.result c.from_residual-in_err-given.ensures.1 (visited.full call there.asked) (visited.too_deep call there.asked)
 
 pub settle-requires-clause-call : goal.settle-requires-clause-call

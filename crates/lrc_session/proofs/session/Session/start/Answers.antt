@@ -1,13 +1,22 @@
-use Rattle.std.proofs.Common.{refl, sym, subst}
-use Rattle.lrc_meaning.specs.Tree.{tree}
+use Rattle.std.proofs.Common.{◌<◌, refl, sym, subst, rules}
+use Rattle.lrc_meaning.specs.Tree.{tree, tree_height}
 use Rattle.lrc_visit_meaning.specs.Values.{root_call}
 use Rattle.lrc_store.proofs.Lasting.{gains-then, stays-gains}
-use Rattle.lrc_session.specs.Sessions.{grammar, demands, HasFrames, Opens}
+use Rattle.lrc_bodies.specs.Bodies.{HasRoom}
+use Rattle.lrc_machine.specs.Machine.{HasLevels}
+use Rattle.lrc_machine.specs.Levels.{slots_of}
+use Rattle.lrc_session.specs.Sessions.{grammar, demands, Opens}
 use Rattle.lrc_session.specs.Proposals.{IsRootGiven}
+use Rattle.lrc_session.proofs.DeepLemmas.{too_high}
 use Rattle.lrc_session.proofs.FaultLemmas.{was_deep}
 use Rattle.lrc_session.proofs.RootLemmas.{root_lacks}
-use Rattle.lrc_session.proofs.SessionLemmas.{proposed_later}
+use Rattle.lrc_session.proofs.SessionLemmas.{visited_frames, proposed_later}
 use Rattle.lrc_session.proofs.session.Session.start.Goals as goal
+
+pub returns-in_err-proposal-clause-too_deep : goal.returns-in_err-proposal-clause-too_deep
+returns-in_err-proposal-clause-too_deep g c e =
+    let high : c.args.depth < tree_height (tree c.args.term.now) = search rules in
+    too_high (grammar c.args.functions.now) c.args.depth (tree c.args.term.now) high
 
 pub returns-in_err-given-clause-gains : goal.returns-in_err-given-clause-gains
 returns-in_err-given-clause-gains g c =
@@ -46,5 +55,6 @@ returns-clause-opens g c =
     let visited = c.in_ok-given.ensures in
     subst (λ n. Opens functions v n t c.begin.result) depth
     (c.begin.ensures.opens t
-    (proposed_later functions m u t c.in_ok-proposal.proposal _ (visited.gains (root_call t) asked).lasts.known refl (subst (HasFrames functions c.visit.new.frames) (sym depth) visited.levels) proposed)
+    (proposed_later functions m u t c.in_ok-proposal.proposal _ (visited.gains (root_call t) asked).lasts.known refl (visited_frames functions c.in_ok-proposal.proposal.frames c.visit.new.frames c.in_ok-proposal.proposal.depth
+    (subst (λ n. HasLevels (λ frame. HasRoom functions.counts frame.items) (slots_of c.visit.new.frames.levels) n) (sym depth) visited.levels) visited.stack proposed.frames) proposed)
     (subst (λ n. IsRootGiven functions u n t c.in_ok-given.given.0) (sym depth) (visited.gives (root_call t) asked)))
