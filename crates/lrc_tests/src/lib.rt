@@ -11,6 +11,8 @@ mod command_line;
 #[cfg(test)]
 mod functions;
 #[cfg(test)]
+mod generated;
+#[cfg(test)]
 mod grammars;
 #[cfg(test)]
 mod jobs;
