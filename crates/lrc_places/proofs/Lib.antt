@@ -4,3 +4,4 @@ pub mod ShapeLemmas
 pub mod KidLemmas
 pub mod BuildLemmas
 pub mod PutLemmas
+pub mod CopyLemmas

@@ -1,10 +1,9 @@
 -- A tree that is higher than a limit has no attributes within it.
-use Rattle.std.proofs.Common.{◌≡◌, ℕ, suc, ◌<◌, ◌≤◌, max, Bool, true, false, not, ◌&&◌, List, [], ◌∷◌, Some, None, IsTrue, refl, sym, ap, ◌∙◌, subst, arith}
+use Rattle.std.proofs.Common.{◌≡◌, ℕ, ◌<◌, ◌≤◌, Bool, true, false, not, ◌&&◌, List, [], ◌∷◌, Some, IsTrue, refl, subst, arith}
 use Rattle.std.proofs.lemmas.Bool.{false≢true}
 use Rattle.lrc_base.specs.declared.grammar.Kind.{Kind}
-use Rattle.lrc_base.specs.declared.grammar.Kind.TheVariants as k
 use Rattle.lrc_base.specs.declared.grammar.Kid.{Kid}
-use Rattle.lrc_meaning.specs.Tree.{Tree, at_place, replaced, int, bool, name, node, Trees, is_sort, is_left, fits, each_fits, kids_of, tree_height, tallest}
+use Rattle.lrc_meaning.specs.Tree.{Tree, at_place, replaced, int, bool, name, node, is_sort, is_left, fits, each_fits, kids_of, tree_height, tallest}
 use Rattle.lrc_meaning.specs.Grammar.{Grammar}
 use Rattle.lrc_meaning.specs.Attribution.{Decorated, at_node, Parts, end, value, symbol, bare, bare_kids, production_of, kids_agree, IsRight, AreRight, height, highest, Attributes}
 use Rattle.lrc_meaning.proofs.KindLemmas.{left_kind}

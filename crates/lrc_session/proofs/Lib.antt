@@ -5,3 +5,5 @@ pub mod SessionLemmas
 pub mod PutLemmas
 pub mod DeepLemmas
 pub mod EditLemmas
+pub mod CopyLemmas
+pub mod CopyEditLemmas

@@ -56,10 +56,10 @@ module _ (functions : Functions) (whole : Tree) (steps : List ℕ) (new : Tree) 
       fits-put prods whole new start kind steps fitting (declared-kind prods whole there.old start kind steps fitting there.there there.of_kind) of_kind
 
   module _ (limit : ℕ) where
-    abbrev needed : List CellTree
+    abbrev pub needed : List CellTree
     needed = demands functions limit changed
 
-    tree_needed : IsWithin (parts_of (tree_cell changed)) needed
+    pub tree_needed : IsWithin (parts_of (tree_cell changed)) needed
     tree_needed = tree_demanded (grammar functions) (sorts functions) limit changed
 
     call_needed : IsWithin (parts_of (call_form (root_call changed))) needed
@@ -83,21 +83,27 @@ module _ (functions : Functions) (whole : Tree) (steps : List ℕ) (new : Tree) 
         subst (HasFrames functions after.frames) (sym depth)
         (same_room functions before.frames after.frames before.depth (subst (λ l. HasLevels (λ frame. HasRoom functions.counts frame.items) (slots_of l) before.depth) (sym levels) h.frames.levels) room h.frames)
 
-    open_after : (t : Standing) → Keeps s t → IsOpen functions t after whole vs
+    pub open_after : (t : Standing) → Keeps s t → IsOpen functions t after whole vs
     open_after t keeps = still_open functions s t whole vs before after keeps tree values depth same_frames h
+
+    -- nothing was replaced
+    pub stopped : (t : Standing) (fault : EditFault) (answer : Result Handle EditFault) → IsErrAnd answer (λ e. e ≡ fault) → Adds s t (parts_of (tree_cell changed))
+        → ProposalAnswers functions s t limit whole steps new kind (Err fault) → ProposesPut functions s t whole vs before after steps new kind answer
+    stopped t fault answer is adds answers = record {
+      adds = adds-more s t (parts_of (tree_cell changed)) (needed limit) (tree_needed limit) adds;
+      is_open = open_after t adds.gains.lasts.known;
+      depth = depth;
+      runs = runs;
+      answers = subst (ProposalAnswers functions s t limit whole steps new kind) (sym (is_fault answer fault is)) answers;
+    }
 
     -- the place is none for the part, or the store is full
     pub stopped_at_place : (t : Standing) (fault : ReplaceFault) (answer : Result Handle EditFault) → IsErrAnd answer (λ e. e ≡ place_fault fault) → Replaces prods s t whole steps new kind limit (Err fault)
         → ProposesPut functions s t whole vs before after steps new kind answer
-    stopped_at_place t fault answer is did = record {
-      adds = adds-more s t (parts_of (tree_cell changed)) (needed limit) (tree_needed limit) did.adds;
-      is_open = open_after t did.adds.gains.lasts.known;
-      depth = depth;
-      runs = runs;
-      answers = subst (ProposalAnswers functions s t limit whole steps new kind) (sym (is_fault answer (place_fault fault) is)) (place_answers limit s t fault did.answers);
-    }
+    stopped_at_place t fault answer is did = stopped t (place_fault fault) answer is did.adds (place_answers limit s t fault did.answers)
 
-    module _ (t u : Standing) (root : Handle) (did : Replaces prods s t whole steps new kind limit (Ok root)) where
+    -- another limit than the session's may have been set for the part
+    module _ (t u : Standing) (root : Handle) (high : ℕ) (did : Replaces prods s t whole steps new kind high (Ok root)) where
       pub root_stands : Stands t root.0 (tree_cell changed)
       root_stands = did.answers.2.stands
 

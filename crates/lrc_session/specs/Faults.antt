@@ -1,4 +1,6 @@
 -- The faults of a session's calls, by those of the calls that they make.
+use Rattle.lrc_places.specs.declared.copying.CopyFault.{CopyFault}
+use Rattle.lrc_places.specs.declared.copying.CopyFault.TheVariants as copy
 use Rattle.lrc_places.specs.declared.putting.ReplaceFault.{ReplaceFault}
 use Rattle.lrc_places.specs.declared.putting.ReplaceFault.TheVariants as place
 use Rattle.lrc_visit.specs.declared.visits.VisitFault.{VisitFault}
@@ -21,3 +23,8 @@ place_fault place.BadPath = edit.BadPath
 place_fault place.WrongSort = edit.WrongSort
 place_fault place.Full = edit.Full
 place_fault place.TooHigh = edit.TooDeep
+
+abbrev pub copy_fault : CopyFault → EditFault
+copy_fault copy.BadPath = edit.BadPath
+copy_fault copy.WrongSort = edit.WrongSort
+copy_fault copy.Full = edit.Full

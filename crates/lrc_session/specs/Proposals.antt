@@ -1,5 +1,5 @@
 -- The halves of opening a session and of a put: what is there before the root's visit, and what its result leaves.
-use Rattle.std.specs.Prelude.{ℕ, ◌≡◌, ◌<◌, ◌≤◌, List, None, Result, Ok, Err}
+use Rattle.std.specs.Prelude.{ℕ, ◌≡◌, ◌<◌, List, None, Result, Ok, Err}
 use Rattle.lrc_base.specs.declared.grammar.Kind.{Kind}
 use Rattle.lrc_meaning.specs.Tree.{Tree, at_place, replaced, tree_height}
 use Rattle.lrc_visit_meaning.specs.Values.{root_call}

@@ -1,7 +1,7 @@
 ghost use Rattle.std.specs.Prelude.{◌≡◌};
 
 use lrc_base::Memory;
-use lrc_places::ReplaceFault;
+use lrc_places::{CopyFault, ReplaceFault};
 use lrc_store::Full;
 use lrc_visit::VisitFault;
 
@@ -19,7 +19,7 @@ pub enum StartFault {
 /// Why a session was not changed.
 #[derive(Debug, Clone, Copy, PartialEq, Eq)]
 pub enum EditFault {
-    /// The path names no place of the tree.
+    /// A path names no place of the tree.
     BadPath = 1,
     /// What stands at the place is of another kind.
     WrongSort = 2,
@@ -96,6 +96,20 @@ impl From<ReplaceFault> for EditFault {
             ReplaceFault::WrongSort => EditFault::WrongSort,
             ReplaceFault::Full => EditFault::Full,
             ReplaceFault::TooHigh => EditFault::TooDeep,
+        }
+    }
+}
+
+impl From<CopyFault> for EditFault {
+    ghost use Rattle.lrc_session.specs.Faults.{copy_fault};
+
+    ghost from_gives = { λ fault answer. answer ≡ copy_fault fault };
+
+    fn from(fault: CopyFault) -> EditFault {
+        match fault {
+            CopyFault::BadPath => EditFault::BadPath,
+            CopyFault::WrongSort => EditFault::WrongSort,
+            CopyFault::Full => EditFault::Full,
         }
     }
 }

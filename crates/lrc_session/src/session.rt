@@ -262,7 +262,8 @@ impl Session {
         self.values
     }
 
-    /// How many bodies ran in the last `start`, `put`, or halves of these, that gave the session its tree.
+    /// How many bodies ran in the last `start`, `put`, `copy`, or halves of these, that gave the session its
+    /// tree.
     pub fn runs(&self) -> u64
         ensures { result ≡ self.now.runs }
     {

@@ -16,6 +16,7 @@ use Rattle.lrc_session.specs.declared.session.Session.{Session}
 use Rattle.lrc_session.specs.declared.fault.EditFault.{EditFault}
 use Rattle.lrc_session.specs.declared.fault.EditFault.TheVariants as f
 use Rattle.lrc_session.specs.Sessions.{IsOpen, Edits}
+use Rattle.lrc_session.specs.Copying.{Copies, copies_nothing, copies_part}
 use Rattle.lrc_session.proofs.SessionLemmas.{still_open}
 use Rattle.lrc_visit_tests.specs.Opened.{IsOpened}
 
@@ -34,6 +35,12 @@ module _ (functions : Functions) where
   opened_after s t whole vs before after steps new kind (Err f.WrongSort) edits = (whole, vs, edits.answers.2)
   opened_after s t whole vs before after steps new kind (Err f.TooDeep) edits = (whole, vs, edits.answers.2)
   opened_after s t whole vs before after steps new kind (Err f.Full) edits = (whole, vs, edits.answers.2)
+
+  -- whatever a copy is answered
+  pub opened_copy : (s t : Standing) (whole : Tree) (vs : List Tree) (before after : Session) (from to : List ℕ) (answer : Result (Unit {0}) EditFault)
+      → Copies functions s t whole vs before after from to answer → IsOpened functions t after
+  opened_copy s t whole vs before after from to answer (copies_nothing is none) = (whole, vs, none.is_open)
+  opened_copy s t whole vs before after from to answer (copies_part new kind there of_kind edits) = opened_after s t whole vs before after to new kind answer edits
 
 -- the first of some values
 pub first_of : (vs : List Tree) → 0 < length vs → (v : Tree) × (slice_get vs 0 ≡ Some v)

@@ -14,7 +14,7 @@ ghost use Rattle.lrc_functions.specs.declared.functions.Functions.{Functions};
 ghost use Rattle.lrc_visit_tests.specs.Opened.{IsOpened};
 
 use crate::jobs::{only, scene_of, store_for};
-use lrc_base::{Edit, Memory, Script};
+use lrc_base::{Edit, Memory, Path, Script};
 use lrc_bodies::VisitMeaning;
 use lrc_functions::Functions;
 use lrc_places::Put;
@@ -38,6 +38,21 @@ session on Add(Num(1), Num(2)) {
   put /0 3;
   put /0 Add(Num(8), Num(9));
   put /1 Num(2);
+}
+";
+
+/// The same sum, with copies of its parts.
+const COPIES: &[u8] = b"lrc 1
+sort Exp { syn val: Int; }
+prod Num: Exp (n: Int) { val = n; }
+prod Add: Exp (l: Exp, r: Exp) { val = l.val + r.val; }
+start Exp;
+session on Add(Num(1), Num(2)) {
+  copy /0 /1;
+  copy /7 /0;
+  copy /0 /7;
+  copy /0/0 /1;
+  copy / /0;
 }
 ";
 
@@ -116,6 +131,41 @@ fn put<St: Store<M = VisitMeaning>>(
     session.put(store, functions, &put).err()
 }
 
+/// Makes a copy; why it was refused.
+fn copy<St: Store<M = VisitMeaning>>(
+    store: &mut St,
+    functions: &Functions,
+    session: &mut Session,
+    from: &Path,
+    to: &Path,
+) -> Option<EditFault>
+    requires meaning { IsMeaningOf functions.now (St.meaning store.old) }
+    requires session { IsOpened functions.now (St.state store.old) session.old }
+    ensures session { IsOpened functions.now (St.state store.new) session.new }
+    ensures same_meaning { St.meaning store.new ≡ St.meaning store.old }
+{
+    session.copy(store, functions, from, to).err()
+}
+
+/// Makes an edit that is a put or a copy; why it was refused.
+fn made<St: Store<M = VisitMeaning>>(
+    store: &mut St,
+    functions: &Functions,
+    session: &mut Session,
+    edit: &Edit,
+) -> Option<EditFault>
+    requires meaning { IsMeaningOf functions.now (St.meaning store.old) }
+    requires session { IsOpened functions.now (St.state store.old) session.old }
+    requires fits { IsTrue (edit_fits functions.now.plan.grammar.prods edit.now) }
+    ensures session { IsOpened functions.now (St.state store.new) session.new }
+    ensures same_meaning { St.meaning store.new ≡ St.meaning store.old }
+{
+    if let Edit::Copy(from, to) = edit {
+        return copy(store, functions, session, from, to);
+    }
+    put(store, functions, session, edit)
+}
+
 /// What an open session has, and what it has after each edit.
 fn answers<St: Store<M = VisitMeaning>>(
     alloc: Global,
@@ -131,7 +181,7 @@ fn answers<St: Store<M = VisitMeaning>>(
     let mut answers = Vec::new(alloc);
     answers.push(answer(store, session, None))?;
     'edits: for edit in edits {
-        let fault = put(store, functions, session, edit);
+        let fault = made(store, functions, session, edit);
         answers.push(answer(store, session, fault))?;
     }
     Ok(answers)
@@ -157,15 +207,28 @@ fn played<St: Store<M = VisitMeaning>>(
     }
 }
 
-/// What the session of the sum is answered over a store of so many rows.
+/// What the session of a text is answered over a store of so many rows.
+fn text_played(
+    alloc: Global,
+    text: &[u8],
+    rows: u32,
+    depth: u32,
+) -> Result<Result<Vec<Answer>, StartFault>, Fail>
+    requires some { 1 ≤ rows }
+    requires limit { rows ≤ 2 ^ 24 }
+{
+    let scene = scene_of(alloc, text)?;
+    let script = only(scene.sessions.as_slice()).ok_or("no session")?;
+    let mut store = store_for(alloc, &scene.functions, rows)?;
+    Ok(played(alloc, &mut store, &scene.functions, depth, script)?)
+}
+
+/// The same of the session of the sum.
 fn sum_played(alloc: Global, rows: u32, depth: u32) -> Result<Result<Vec<Answer>, StartFault>, Fail>
     requires some { 1 ≤ rows }
     requires limit { rows ≤ 2 ^ 24 }
 {
-    let scene = scene_of(alloc, SUM)?;
-    let script = only(scene.sessions.as_slice()).ok_or("no session")?;
-    let mut store = store_for(alloc, &scene.functions, rows)?;
-    Ok(played(alloc, &mut store, &scene.functions, depth, script)?)
+    text_played(alloc, SUM, rows, depth)
 }
 
 /// The last edit brings the first tree back, whose calls are all remembered.
@@ -195,6 +258,42 @@ fn a_put_without_a_row_is_refused(rt: HostRuntime) -> Result<(), Fail> {
         (Some(EditFault::WrongSort), Some(3), 3),
         (Some(EditFault::Full), Some(3), 3),
         (None, Some(3), 0),
+    ];
+    assert_eq!(rt; answers.as_slice(), wanted.as_slice());
+    Ok(())
+}
+
+/// A copy runs the root's body alone, since the part's call is remembered.
+#[test]
+fn a_copy_is_made_or_refused(rt: HostRuntime) -> Result<(), Fail> {
+    let answers = text_played(rt.alloc(), COPIES, 1_000, 2)?
+        .ok()
+        .ok_or("not opened")?;
+    let wanted = [
+        (None, Some(3), 3),
+        (None, Some(2), 1),
+        (Some(EditFault::BadPath), Some(2), 1),
+        (Some(EditFault::BadPath), Some(2), 1),
+        (Some(EditFault::WrongSort), Some(2), 1),
+        (Some(EditFault::TooDeep), Some(2), 1),
+    ];
+    assert_eq!(rt; answers.as_slice(), wanted.as_slice());
+    Ok(())
+}
+
+/// There is no row for the list of the same part twice, nor for a sum in a sum.
+#[test]
+fn a_copy_without_a_row_is_refused(rt: HostRuntime) -> Result<(), Fail> {
+    let answers = text_played(rt.alloc(), COPIES, 21, 500)?
+        .ok()
+        .ok_or("not opened")?;
+    let wanted = [
+        (None, Some(3), 3),
+        (Some(EditFault::Full), Some(3), 3),
+        (Some(EditFault::BadPath), Some(3), 3),
+        (Some(EditFault::BadPath), Some(3), 3),
+        (Some(EditFault::WrongSort), Some(3), 3),
+        (Some(EditFault::Full), Some(3), 3),
     ];
     assert_eq!(rt; answers.as_slice(), wanted.as_slice());
     Ok(())

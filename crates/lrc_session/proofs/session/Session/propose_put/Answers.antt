@@ -26,8 +26,8 @@ returns-in_err-put_root_call-clause-proposes g c whole vs has =
     let new = tree put.term.now in
     let root = c.in_ok-whole.whole in
     let did = by_plan functions whole steps new put.kind s m c.args.self.now.depth c.args.self.now.tree.0 c.as_slice-prods.result.now (Ok root) c.as_slice-prods.ensures has.fitting has.tree c.in_ok-whole.ensures.replaces in
-    let stands = root_stands functions whole steps new put.kind s vs c.args.self.now c.args.self.now has refl refl refl refl refl refl m u root did in
-    stopped_at_call functions whole steps new put.kind s vs c.args.self.now _ has refl refl refl refl refl c.replace.ensures.room m u root did c.in_err-put_root_call.field-0.0
+    let stands = root_stands functions whole steps new put.kind s vs c.args.self.now c.args.self.now has refl refl refl refl refl refl m u root c.args.self.now.depth did in
+    stopped_at_call functions whole steps new put.kind s vs c.args.self.now _ has refl refl refl refl refl c.replace.ensures.room m u root c.args.self.now.depth did c.in_err-put_root_call.field-0.0
     c.from_residual-in_err-put_root_call.result c.from_residual-in_err-put_root_call.ensures.1 (c.in_err-put_root_call.ensures.builds (changed functions whole steps new put.kind) stands)
 
 pub returns-clause-proposes : goal.returns-clause-proposes
@@ -41,6 +41,6 @@ returns-clause-proposes g c whole vs has =
     let new = tree put.term.now in
     let root = c.in_ok-whole.whole in
     let did = by_plan functions whole steps new put.kind s m c.args.self.now.depth c.args.self.now.tree.0 c.as_slice-prods.result.now (Ok root) c.as_slice-prods.ensures has.fitting has.tree c.in_ok-whole.ensures.replaces in
-    let stands = root_stands functions whole steps new put.kind s vs c.args.self.now c.args.self.now has refl refl refl refl refl refl m u root did in
-    proposed functions whole steps new put.kind s vs c.args.self.now _ has refl refl refl refl refl c.replace.ensures.room m u root did c.in_ok-put_root_call.field-0 c.requires.term c.term_is_spelled.ensures
+    let stands = root_stands functions whole steps new put.kind s vs c.args.self.now c.args.self.now has refl refl refl refl refl refl m u root c.args.self.now.depth did in
+    proposed functions whole steps new put.kind s vs c.args.self.now _ has refl refl refl refl refl c.replace.ensures.room m u root c.args.self.now.depth did c.in_ok-put_root_call.field-0 c.requires.term c.term_is_spelled.ensures
     (c.in_ok-put_root_call.ensures.builds (changed functions whole steps new put.kind) stands)
