@@ -1,0 +1,5 @@
+pub mod AcceptedLemmas
+pub mod LetsOrderLemmas
+pub mod NamedLemmas
+pub mod RankLemmas
+pub mod DrawnLemmas
