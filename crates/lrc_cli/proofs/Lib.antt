@@ -1,4 +1,6 @@
 pub mod TextLemmas
+pub mod SumLemmas
+pub mod LetsLimits
 pub mod OneLemmas
 pub mod TopLemmas
 pub mod PlacedLemmas

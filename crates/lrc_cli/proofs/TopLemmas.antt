@@ -1,11 +1,13 @@
 -- Why an input is refused, and what is told of it.
 use Rattle.std.proofs.Common.{◌≡◌, ℕ, Bool, true, false, ◌<◌, ◌≤◌, ◌*◌, List, [], ◌∷◌, map, length, take, Option, Some, None, Result, Ok, Err, IfErr, IsErrAnd, All, MatchBool, ◌⊎◌, inl, inr, ◌≢◌, refl, sym, arith, ap, ◌∙◌, subst, IsTrue}
+use Rattle.std.proofs.lemmas.Bool.{false≢true}
 use Rattle.std.proofs.lemmas.List.{drop_all, take_all, take-append-drop, length-take}
 use Rattle.std.proofs.lemmas.Grind.{common_steps}
 use Rattle.std.specs.Prelude.{String}
 use Rattle.std.specs.declared.alloc.Global.{Global}
 use Rattle.std.specs.Io.KnownBytes.{Appends, Keeps, Consumes}
 use Rattle.lrc_base.specs.declared.limits.TheConstants.{ROW_LIMIT, TEXT_LIMIT}
+use Rattle.lrc_outside.specs.Count.{Rose}
 use Rattle.lrc_outside.specs.Known.{TakesUpTo, LosesUpTo, AppendsPart}
 use Rattle.lrc_words.specs.declared.command.Command.{Command}
 use Rattle.lrc_words.specs.declared.command.Verb.{Verb}
@@ -34,22 +36,20 @@ use Rattle.lrc_base.specs.declared.job.Script.{Script}
 use Rattle.lrc_meaning.specs.Tree.{Tree}
 use Rattle.lrc_meaning.specs.Editing.{Change}
 use Rattle.lrc_meaning.specs.Grammar.{Grammar}
-use Rattle.lrc_failures.specs.Taken.{failure_of_text, failure_of_job}
-use Rattle.lrc_cli.specs.Headline.{IsAccepted, IsBuilt, IsOutputOf, IsBuiltFor}
-use Rattle.lrc_cli.specs.Causes.{row_limit, IsCycleAt, IsUnbuiltVerb, IsBuiltVerb, ReadsNothing, RunsSessions, TellsOrder, IsUnordered, has_cycle, has_no_memory, IsCause, no_job, not_accepted, too_many_rows, not_one_session, no_run, not_ordered, not_ordered_to_run, no_memory}
-use Rattle.lrc_cli.specs.Running.{IsBuiltSession}
-use Rattle.lrc_cli.proofs.RunLemmas.{OneJob, same_accepted, built}
-use Rattle.lrc_cli.specs.Status.{input_limit, IsReadWhole, Done, Unwritten, IsRefused, unread, read, Refused, HoldsJob, is_refusal}
+use Rattle.lrc_outside.specs.declared.take_all.TakeFault.{TakeFault}
+use Rattle.lrc_outside.specs.declared.take_all.TakeFault.TheVariants as take
+use Rattle.lrc_failures.specs.Taken.{failure_of, failure_of_text, failure_of_job}
+use Rattle.lrc_gen.specs.Generated.{generated}
+use Rattle.lrc_gen_laws.specs.LetsGrammar.{lets_grammar}
+use Rattle.lrc_gen_laws.specs.Accepted as drawn
+use Rattle.lrc_cli.specs.Headline.{IsOutputOf, Prints}
+use Rattle.lrc_cli.specs.Causes.{row_limit, IsCycleAt, ReadsJob, ReadsNothing, RunsSessions, TakesSessions, KeepsRows, IsCycle, IsUnordered, has_cycle, has_no_memory, IsCountFault, too_many_rows, not_one_session, IsJobCause, not_accepted, other_count, not_ordered, no_memory, IsCause, no_job, of_job, reads_no_memory}
+use Rattle.lrc_cli.proofs.RunLemmas.{OneJob, same_sessions, moved_job}
+use Rattle.lrc_cli.specs.Status.{input_limit, IsReadWhole, HasRead, HasOutput, Done, Unwritten, IsRefused, read, generates, IsHindrance, read_fails, is_refused, lacks_memory, Refused, CanBeDone, HoldsJob, told, generates_job, is_refusal}
 
 pub keeps_itself : (a : Option (List ℕ)) → Keeps a a
 keeps_itself None = tt
 keeps_itself (Some xs) = refl
-
--- a command that is not built is refused before anything is read
-pub not_read : (words : List (String Global)) (left : Option (List ℕ)) (command : Command) (b : Bool) → Says (texts words) command → IsWithinRanges command → b ≡ false
-    → MatchBool b (IsBuiltVerb command.verb) (IsUnbuiltVerb command.verb) → Refused words left left f.NotBuilt
-not_read words left command b says within unbuilt built =
-    record { command = command; says = says; within = within; refused = unread (subst (λ (x : Bool). MatchBool x (IsBuiltVerb command.verb) (IsUnbuiltVerb command.verb)) unbuilt built) (keeps_itself left) }
 
 -- what a source loses is at most the limit, where nothing was taken and where it was read
 pub loses_nothing : (left : Option (List ℕ)) → LosesUpTo input_limit left left
@@ -64,17 +64,6 @@ loses_taken (Some xs) left' input taken = (
   subst (λ (o : Option (List ℕ)). Consumes (Some xs) o (take input_limit xs)) (sym taken.1) (sym (take-append-drop input_limit xs)),
 )
 
--- a command that reads nothing is not built
-never_both : (v : Verb) → IsBuiltVerb v → ReadsNothing v → ⊥
-never_both v (inl run) gen = absurd (cc)
-never_both v (inr (inl solo)) gen = absurd (cc)
-never_both v (inr (inr (inl check))) gen = absurd (cc)
-never_both v (inr (inr (inr plan))) gen = absurd (cc)
-
--- what is known of a command that is built
-pub known_built : (command : Command) (b : Bool) → b ≡ true → MatchBool b (IsBuiltVerb command.verb) (IsUnbuiltVerb command.verb) → IsBuiltVerb command.verb
-known_built command b is built = subst (λ (x : Bool). MatchBool x (IsBuiltVerb command.verb) (IsUnbuiltVerb command.verb)) is built
-
 -- what may be a cause: a refusal of the input, or want of memory
 abbrev may_be_cause : Failure → Bool
 may_be_cause f.Usage = false
@@ -84,35 +73,74 @@ may_be_cause (f.Text fault) = true
 may_be_cause (f.Accept fault) = true
 may_be_cause f.TooManyRows = true
 may_be_cause f.NotOneSession = true
-may_be_cause f.NotBuilt = true
 may_be_cause (f.NotOrdered cycle) = true
 may_be_cause f.Memory = true
 
+is_count_cause : (command : Command) (count : ℕ) (failure : Failure) → IsCountFault command count failure → may_be_cause failure ≡ true
+is_count_cause command count _ (too_many_rows run many) = refl
+is_count_cause command count _ (not_one_session solo few others) = refl
+
+is_job_cause : (command : Command) (job : Job) (failure : Failure) → IsJobCause command job failure → may_be_cause failure ≡ true
+is_job_cause command job _ (not_accepted fault some is) = refl
+is_job_cause command job failure (other_count g ss _ has is) = is_count_cause command (length ss) failure is
+is_job_cause command job _ (not_ordered g ss cycle has rows is) = refl
+is_job_cause command job _ no_memory = refl
+
 is_cause : (command : Command) (input : List ℕ) (failure : Failure) → IsCause command input failure → may_be_cause failure ≡ true
 is_cause command input _ (no_job fault some is none) = refl
-is_cause command input _ (not_accepted job fault some denotes is) = refl
-is_cause command input _ (too_many_rows g sessions accepted run many) = refl
-is_cause command input _ (not_one_session g sessions accepted solo few others) = refl
-is_cause command input _ (no_run g sessions accepted run few takes none) = refl
-is_cause command input _ (not_ordered g sessions cycle accepted check is) = refl
-is_cause command input _ (not_ordered_to_run g opening changes cycle run few b is) = refl
-is_cause command input _ no_memory = refl
+is_cause command input failure (of_job job _ denotes is) = is_job_cause command job failure is
+is_cause command input _ reads_no_memory = refl
 
--- no cause is one of words, of reading or of writing
-pub never_usage : (command : Command) (input : List ℕ) (failure : Failure) → IsCause command input failure → failure ≢ f.Usage
-never_usage command input failure c e = let known = is_cause command input failure c in absurd (cc)
+-- an input that was read has no output for a cause
+pub hindered : (command : Command) (left left' : Option (List ℕ)) (faults faults' : ℕ) (input : List ℕ) (failure : Failure) → ReadsJob command.verb → TakesUpTo input_limit left left' input → IsCause command input failure
+    → IsHindrance command left left' faults faults' failure
+hindered command left left' faults faults' input failure reads taken cause = by failure (is_cause command input failure cause) cause
+  where
+    by : (failure : Failure) → may_be_cause failure ≡ true → IsCause command input failure → IsHindrance command left left' faults faults' failure
+    by f.Usage known cause = absurd (cc)
+    by f.Read known cause = absurd (cc)
+    by f.Write known cause = absurd (cc)
+    by (f.Text fault) known cause = is_refused (f.Text fault) refl (read input (f.Text fault) reads taken cause)
+    by (f.Accept fault) known cause = is_refused (f.Accept fault) refl (read input (f.Accept fault) reads taken cause)
+    by f.TooManyRows known cause = is_refused f.TooManyRows refl (read input f.TooManyRows reads taken cause)
+    by f.NotOneSession known cause = is_refused f.NotOneSession refl (read input f.NotOneSession reads taken cause)
+    by (f.NotOrdered cycle) known cause = is_refused (f.NotOrdered cycle) refl (read input (f.NotOrdered cycle) reads taken cause)
+    by f.Memory known cause = lacks_memory
 
-pub never_read : (command : Command) (input : List ℕ) (failure : Failure) → IsCause command input failure → failure ≢ f.Read
-never_read command input failure c e = let known = is_cause command input failure c in absurd (cc)
+-- a source that fails, or want of memory, hinders
+pub not_taken : (command : Command) (left left' : Option (List ℕ)) (faults faults' : ℕ) (fault : TakeFault) → (fault ≡ take.Failed → Rose faults faults') → IsHindrance command left left' faults faults' (failure_of fault)
+not_taken command left left' faults faults' take.Failed rose = read_fails (rose refl)
+not_taken command left left' faults faults' take.Memory rose = lacks_memory
 
-pub never_write : (command : Command) (input : List ℕ) (failure : Failure) → IsCause command input failure → failure ≢ f.Write
-never_write command input failure c e = let known = is_cause command input failure c in absurd (cc)
+-- a generated job has no output only where its rows are too many, or memory ran out
+pub not_generated : (command : Command) (left : Option (List ℕ)) (faults : ℕ) (failure : Failure) → ReadsNothing command.verb
+    → ((failure ≡ f.TooManyRows) × (row_limit < command.rows * command.sessions)) ⊎ (failure ≡ f.Memory) → IsHindrance command left left faults faults failure
+not_generated command left faults failure nothing (inl many) =
+    subst (λ x. IsHindrance command left left faults faults x) (sym many.0) (is_refused f.TooManyRows refl (generates nothing (keeps_itself left) many.1))
+not_generated command left faults failure nothing (inr none) = subst (λ x. IsHindrance command left left faults faults x) (sym none) lacks_memory
 
--- an input that was read and is refused for a cause
-pub refused_for : (words : List (String Global)) (left left' : Option (List ℕ)) (command : Command) (input : List ℕ) (failure : Failure) → Says (texts words) command → IsWithinRanges command
-    → IsBuiltVerb command.verb → TakesUpTo input_limit left left' input → IsCause command input failure → Refused words left left' failure
-refused_for words left left' command input failure says within built taken cause =
-    record { command = command; says = says; within = within; refused = read input failure built taken cause }
+-- what hinders is no fault of words or of writing
+pub hindrance_usage : (command : Command) (left left' : Option (List ℕ)) (faults faults' : ℕ) (failure : Failure) → IsHindrance command left left' faults faults' failure → failure ≢ f.Usage
+hindrance_usage command left left' faults faults' _ (read_fails rose) e = absurd (cc)
+hindrance_usage command left left' faults faults' failure (is_refused _ r is) e = absurd (false≢true (subst (λ x. IsTrue (is_refusal x)) e r))
+hindrance_usage command left left' faults faults' _ lacks_memory e = absurd (cc)
+
+pub hindrance_write : (command : Command) (left left' : Option (List ℕ)) (faults faults' : ℕ) (failure : Failure) → IsHindrance command left left' faults faults' failure → failure ≢ f.Write
+hindrance_write command left left' faults faults' _ (read_fails rose) e = absurd (cc)
+hindrance_write command left left' faults faults' failure (is_refused _ r is) e = absurd (false≢true (subst (λ x. IsTrue (is_refusal x)) e r))
+hindrance_write command left left' faults faults' _ lacks_memory e = absurd (cc)
+
+-- where it is a fault of reading the count rose, and where it is a refusal there is its cause
+pub hindrance_read : (command : Command) (left left' : Option (List ℕ)) (faults faults' : ℕ) (failure : Failure) → IsHindrance command left left' faults faults' failure → failure ≡ f.Read → Rose faults faults'
+hindrance_read command left left' faults faults' _ (read_fails rose) e = rose
+hindrance_read command left left' faults faults' failure (is_refused _ r is) e = absurd (false≢true (subst (λ x. IsTrue (is_refusal x)) e r))
+hindrance_read command left left' faults faults' _ lacks_memory e = absurd (cc)
+
+pub hindrance_refused : (words : List (String Global)) (command : Command) (left left' : Option (List ℕ)) (faults faults' : ℕ) (failure : Failure) → Says (texts words) command → IsWithinRanges command
+    → IsHindrance command left left' faults faults' failure → IsTrue (is_refusal failure) → Refused words left left' failure
+hindrance_refused words command left left' faults faults' _ says within (read_fails rose) r = absurd (false≢true r)
+hindrance_refused words command left left' faults faults' failure says within (is_refused _ r is) _ = record { command = command; says = says; within = within; refused = is }
+hindrance_refused words command left left' faults faults' _ says within lacks_memory r = absurd (false≢true r)
 
 few : (n : ℕ) (xs : List ℕ) → length (take n xs) < n → length xs ≤ n
 few n xs h = grind (arith, common_steps)
@@ -124,36 +152,59 @@ read_whole n (Some xs) left' input t h =
     let short : length xs ≤ n = few n xs (let e = ap length t.0 in omega arith) in
     (t.0 ∙ grind (arith, common_steps), t.1 ∙ ap Some (drop_all n xs short))
 
-short_output : (v : Verb) (rows depth : ℕ) (input text : List ℕ) → IsOutputOf v rows depth input text → length input < input_limit
-short_output verb.Run rows depth input text r = let short : length input ≤ TEXT_LIMIT = r.run.built.accepted.denotes.short in omega arith
-short_output verb.Solo rows depth input text r = let short : length input ≤ TEXT_LIMIT = r.run.built.accepted.denotes.short in omega arith
-short_output verb.Check rows depth input text r = let short : length input ≤ TEXT_LIMIT = r.has.accepted.denotes.short in omega arith
-short_output verb.Plan rows depth input text r = let short : length input ≤ TEXT_LIMIT = r.has.accepted.denotes.short in omega arith
-short_output verb.Gen rows depth input text r = absurd r
+short_output : (v : Verb) (c : Command) (input text : List ℕ) → v ≢ verb.Gen → Prints v c input text → length input < input_limit
+short_output verb.Run c input text some r = let short : length input ≤ TEXT_LIMIT = r.denotes.short in omega arith
+short_output verb.Solo c input text some r = let short : length input ≤ TEXT_LIMIT = r.run.accepted.denotes.short in omega arith
+short_output verb.Check c input text some r = let short : length input ≤ TEXT_LIMIT = r.has.accepted.denotes.short in omega arith
+short_output verb.Plan c input text some r = let short : length input ≤ TEXT_LIMIT = r.has.accepted.denotes.short in omega arith
+short_output verb.Gen c input text some r = absurd (some refl)
 
-pub done : (words : List (String Global)) (left left' held held' : Option (List ℕ)) (command : Command) (input text : List ℕ) → Says (texts words) command
-    → TakesUpTo input_limit left left' input → IsOutputOf command.verb command.rows command.depth input text → Appends held held' text → Done words left left' held held'
-done words left left' held held' command input text says t r a = record {
-  command = command;
-  says = says;
-  input = input;
-  text = text;
-  read = read_whole input_limit left left' input t (short_output command.verb command.rows command.depth input text r);
-  output = r;
-  written = a;
-}
+-- a command that reads a job is not `gen`
+reads_is_no_gen : (v : Verb) → ReadsJob v → v ≢ verb.Gen
+reads_is_no_gen v (inl run) gen = absurd (cc)
+reads_is_no_gen v (inr (inl solo)) gen = absurd (cc)
+reads_is_no_gen v (inr (inr (inl check))) gen = absurd (cc)
+reads_is_no_gen v (inr (inr (inr plan))) gen = absurd (cc)
 
-pub unwritten : (words : List (String Global)) (left left' held held' : Option (List ℕ)) (command : Command) (input text : List ℕ) → Says (texts words) command
-    → TakesUpTo input_limit left left' input → IsOutputOf command.verb command.rows command.depth input text → AppendsPart held held' text → Unwritten words left left' held held'
-unwritten words left left' held held' command input text says t r a = record {
-  command = command;
-  says = says;
-  input = input;
-  text = text;
-  read = read_whole input_limit left left' input t (short_output command.verb command.rows command.depth input text r);
-  output = r;
-  part = a;
-}
+pub reads_something : (v : Verb) → ReadsJob v → ReadsNothing v → ⊥
+reads_something v reads nothing = reads_is_no_gen v reads nothing
+
+pub no_gen_reads : (v : Verb) → v ≢ verb.Gen → ReadsJob v
+no_gen_reads verb.Run some = inl refl
+no_gen_reads verb.Solo some = inr (inl refl)
+no_gen_reads verb.Check some = inr (inr (inl refl))
+no_gen_reads verb.Plan some = inr (inr (inr refl))
+no_gen_reads verb.Gen some = absurd (some refl)
+
+has_read : (v : Verb) (left left' : Option (List ℕ)) (input : List ℕ) → v ≢ verb.Gen → IsReadWhole left left' input → HasRead v left left' input
+has_read verb.Run left left' input some r = r
+has_read verb.Solo left left' input some r = r
+has_read verb.Check left left' input some r = r
+has_read verb.Plan left left' input some r = r
+has_read verb.Gen left left' input some r = absurd (some refl)
+
+pub read_output_is : (command : Command) (left left' : Option (List ℕ)) (input text : List ℕ) → ReadsJob command.verb → TakesUpTo input_limit left left' input → IsOutputOf command input text → HasOutput command left left' text
+read_output_is command left left' input text reads t r =
+    let some = reads_is_no_gen command.verb reads in
+    (input, has_read command.verb left left' input some (read_whole input_limit left left' input t (short_output command.verb command input text some r)), r)
+
+generated_has_read : (v : Verb) (left : Option (List ℕ)) (input : List ℕ) → ReadsNothing v → HasRead v left left input
+generated_has_read verb.Run left input nothing = absurd (cc)
+generated_has_read verb.Solo left input nothing = absurd (cc)
+generated_has_read verb.Check left input nothing = absurd (cc)
+generated_has_read verb.Plan left input nothing = absurd (cc)
+generated_has_read verb.Gen left input nothing = keeps_itself left
+
+pub generated_output_is : (command : Command) (left : Option (List ℕ)) (text : List ℕ) → ReadsNothing command.verb → IsOutputOf command [] text → HasOutput command left left text
+generated_output_is command left text nothing r = ([], generated_has_read command.verb left [] nothing, r)
+
+pub done : (words : List (String Global)) (left left' held held' : Option (List ℕ)) (command : Command) (text : List ℕ) → Says (texts words) command
+    → HasOutput command left left' text → Appends held held' text → Done words left left' held held'
+done words left left' held held' command text says has a = record { command = command; says = says; input = has.0; text = text; read = has.1; output = has.2; written = a }
+
+pub unwritten : (words : List (String Global)) (left left' held held' : Option (List ℕ)) (command : Command) (text : List ℕ) → Says (texts words) command
+    → HasOutput command left left' text → AppendsPart held held' text → Unwritten words left left' held held'
+unwritten words left left' held held' command text says has a = record { command = command; says = says; input = has.0; text = text; read = has.1; output = has.2; part = a }
 
 -- the line is printed, or a part of it where the count of faults rose
 pub line_gained : {T E : Type 0} (old new : Option (List ℕ)) (faults faults' : ℕ) (r : Result T E) (line : List ℕ) → Gains old new faults faults' r line → GainsLine old new faults faults' line
@@ -175,13 +226,13 @@ text_cause command input (text.Lex fault) is none = no_job (text.Lex fault) (λ 
 text_cause command input (text.Expected at) is none = no_job (text.Expected at) (λ e. absurd (cc)) (is (λ e. absurd (cc))) (none (λ e. absurd (cc)))
 text_cause command input (text.LimitReached at limit) is none = no_job (text.LimitReached at limit) (λ e. absurd (cc)) (is (λ e. absurd (cc))) (none (λ e. absurd (cc)))
 text_cause command input (text.NestedTooDeep at) is none = no_job (text.NestedTooDeep at) (λ e. absurd (cc)) (is (λ e. absurd (cc))) (none (λ e. absurd (cc)))
-text_cause command input text.Memory is none = no_memory
+text_cause command input text.Memory is none = reads_no_memory
 
-pub job_cause : (command : Command) (input : List ℕ) (job : Job) (fault : AcceptFault) → Denotes input job → IsFaultOf job fault → IsCause command input (failure_of_job fault)
-job_cause command input job (accept.Grammar fault) denotes is = not_accepted job (accept.Grammar fault) (λ e. absurd (cc)) denotes is
-job_cause command input job (accept.Term session edit fault) denotes is = not_accepted job (accept.Term session edit fault) (λ e. absurd (cc)) denotes is
-job_cause command input job (accept.NotStart session) denotes is = not_accepted job (accept.NotStart session) (λ e. absurd (cc)) denotes is
-job_cause command input job accept.Memory denotes is = no_memory
+pub job_cause : (command : Command) (job : Job) (fault : AcceptFault) → IsFaultOf job fault → IsJobCause command job (failure_of_job fault)
+job_cause command job (accept.Grammar fault) is = not_accepted (accept.Grammar fault) (λ e. absurd (cc)) is
+job_cause command job (accept.Term session edit fault) is = not_accepted (accept.Term session edit fault) (λ e. absurd (cc)) is
+job_cause command job (accept.NotStart session) is = not_accepted (accept.NotStart session) (λ e. absurd (cc)) is
+job_cause command job accept.Memory is = no_memory
 
 -- what is known of an error, of whichever error it is
 pub if_err : {T : Type 0} (r : Result T Failure) (P : Failure → Type 0) (x : Failure) → IsErrAnd r (λ y. y ≡ x) → P x → IfErr r P
@@ -207,7 +258,6 @@ is_refusal_of (f.Text fault) h = refl
 is_refusal_of (f.Accept fault) h = refl
 is_refusal_of f.TooManyRows h = refl
 is_refusal_of f.NotOneSession h = refl
-is_refusal_of f.NotBuilt h = refl
 is_refusal_of (f.NotOrdered cycle) h = refl
 is_refusal_of f.Memory h = absurd (elim h [ inl e ↦ above 7 5 (omega arith) e | inr e ↦ above 7 6 (omega arith) e ])
 
@@ -216,17 +266,11 @@ pub err_more : {T : Type 0} (r : Result T Failure) (P Q : Failure → Type 0) �
 err_more (Ok t) P Q p q = tt
 err_more (Err x) P Q p q = q x p
 
--- a grammar that is not ordered is a cause of `check`, and of a run
-pub unordered_cause : (command : Command) (input : List ℕ) (g : Grammar) (sessions : List Session) (failure : Failure) → IsAccepted input g sessions → TellsOrder command
-    → IsUnordered g failure → IsCause command input failure
-unordered_cause command input g sessions _ accepted check (has_cycle cycle is) = not_ordered g sessions cycle accepted check is
-unordered_cause command input g sessions _ accepted check has_no_memory = no_memory
-
-pub unordered_to_run_cause : (command : Command) (input : List ℕ) (g : Grammar) (sessions : List Script) (script : Script) (failure : Failure) → RunsSessions command.verb → command.rows ≤ row_limit
-    → IsAccepted input g (map session sessions) → IsBuiltSession g sessions script → IsUnordered g failure → IsCause command input failure
-unordered_to_run_cause command input g sessions script _ run few accepted b (has_cycle cycle is) =
-    not_ordered_to_run g _ _ cycle run few (built input g sessions script b accepted) is
-unordered_to_run_cause command input g sessions script _ run few accepted b has_no_memory = no_memory
+-- a grammar that is not ordered is a cause
+pub unordered_cause : (command : Command) (job : Job) (g : Grammar) (sessions : List Session) (failure : Failure) → HasSessions job g (Ok sessions) → KeepsRows command (length sessions)
+    → IsUnordered g failure → IsJobCause command job failure
+unordered_cause command job g sessions _ has rows (has_cycle cycle is) = not_ordered g sessions cycle has rows is
+unordered_cause command job g sessions _ has rows has_no_memory = no_memory
 
 -- the statuses 5 and 6, and want of memory, are all that is left
 pub done_or_memory : (failure : Failure) → failure ≢ f.Usage → failure ≢ f.Read → failure ≢ f.Write → ¬ IsTrue (is_refusal failure) → (status_of failure ≡ 0) ⊎ (status_of failure ≡ 7)
@@ -237,7 +281,6 @@ done_or_memory (f.Text fault) a b c d = absurd (d refl)
 done_or_memory (f.Accept fault) a b c d = absurd (d refl)
 done_or_memory f.TooManyRows a b c d = absurd (d refl)
 done_or_memory f.NotOneSession a b c d = absurd (d refl)
-done_or_memory f.NotBuilt a b c d = absurd (d refl)
 done_or_memory (f.NotOrdered cycle) a b c d = absurd (d refl)
 done_or_memory f.Memory a b c d = inr refl
 
@@ -249,7 +292,6 @@ is_write (f.Text fault) e = absurd (above 5 4 (omega arith) e)
 is_write (f.Accept fault) e = absurd (above 5 4 (omega arith) e)
 is_write f.TooManyRows e = absurd (above 5 4 (omega arith) e)
 is_write f.NotOneSession e = absurd (above 5 4 (omega arith) e)
-is_write f.NotBuilt e = absurd (above 5 4 (omega arith) e)
 is_write (f.NotOrdered cycle) e = absurd (above 6 4 (omega arith) e)
 is_write f.Memory e = absurd (above 7 4 (omega arith) e)
 
@@ -257,15 +299,6 @@ is_write f.Memory e = absurd (above 7 4 (omega arith) e)
 pub not_usage : (words : List (List ℕ)) (command : Command) → Says words command → AreRefused words ⊎ (verb_of words ≡ None) → ⊥
 not_usage words command says (inl r) = r.1 says.taken
 not_usage words command says (inr n) = let verb = says.verb in absurd (cc)
-
-same_command : (words : List (List ℕ)) (c d : Command) → Says words c → Says words d → (c.verb ≡ d.verb)
-same_command words c d a b = let one = a.verb in let other = b.verb in cc
-
--- words that ask for a command that is built ask for none that reads nothing
-pub reads_something : (words : List (List ℕ)) (command : Command) (b : Bool) → Says words command → b ≡ true → MatchBool b (IsBuiltVerb command.verb) (IsUnbuiltVerb command.verb)
-    → (other : Command) → Says words other → ReadsNothing other.verb → ⊥
-reads_something words command b says is built other says-too nothing =
-    never_both command.verb (known_built command b is built) (subst ReadsNothing (same_command words other command says-too says) nothing)
 
 -- ---- a source that holds a job that can be run is not refused
 
@@ -279,21 +312,12 @@ two_ways job g h ss fault a b =
     let there = b.sessions in
     absurd (cc)
 
-few_rows : (rows sessions : ℕ) → sessions ≡ 1 → rows ≤ ROW_LIMIT → row_limit < rows * sessions → ⊥
-few_rows rows sessions one few many = let product : rows * sessions ≡ rows = ap (λ (n : ℕ). rows * n) one ∙ omega arith in absurd (omega arith)
-
 -- a job with sessions has no fault
 no_fault : (job : Job) (g : Grammar) (ss : List Session) (fault : AcceptFault) → HasSessions job g (Ok ss) → fault ≢ accept.Memory → IsFaultOf job fault → ⊥
 no_fault job g ss (accept.Grammar fault) has some is = let none = has.no_fault in absurd (cc)
 no_fault job g ss (accept.Term s e fault) has some is = two_ways job g is.0 ss _ has is.1
 no_fault job g ss (accept.NotStart s) has some is = two_ways job g is.0 ss _ has is.1
 no_fault job g ss accept.Memory has some is = absurd (some refl)
-
-runs_tell_nothing : (command : Command) → RunsSessions command.verb → TellsOrder command → ⊥
-runs_tell_nothing command (inl run) (inl e) = absurd (cc)
-runs_tell_nothing command (inl run) (inr e) = absurd (cc)
-runs_tell_nothing command (inr solo) (inl e) = absurd (cc)
-runs_tell_nothing command (inr solo) (inr e) = absurd (cc)
 
 -- a grammar that is ordered has no cycle
 no_cycle : (prods : List Production) (Paths : Production → ℕ → ℕ → Type 0) (p x : ℕ) → All (λ q. IsAcyclic (Paths q)) prods → IsFirstCycle prods Paths p x → ⊥
@@ -303,73 +327,80 @@ ordered_has_none : (g : Grammar) (cycle : Cycle) (is_extended : Bool) (p x : ℕ
 ordered_has_none g cycle true p x ordered c = no_cycle g.prods (ExtendedPath g []) p x ordered.extended c.1
 ordered_has_none g cycle false p x ordered c = no_cycle g.prods (Leads g []) p x ordered.induced c
 
-run_not_refused : OneJob → (command : Command) (bytes : List ℕ) (g : Grammar) (opening : Tree) (changes : List Change) (failure : Failure) → IsWithinRanges command → RunsSessions command.verb
-    → IsBuilt bytes g opening changes → IsOrdered g [] → IsTrue (is_refusal failure) → IsCause command bytes failure → ⊥
-run_not_refused one command bytes g opening changes _ within run b ordered r (no_job fault some is none) = none b.accepted.job b.accepted.denotes
-run_not_refused one command bytes g opening changes _ within run b ordered r (not_accepted job fault some denotes is) =
-    no_fault job g _ fault (subst (λ (j : Job). HasSessions j g (Ok (record { opening = opening; changes = changes } ∷ []))) (one bytes b.accepted.job job b.accepted.denotes denotes) b.accepted.accepted) some is
-run_not_refused one command bytes g opening changes _ within run b ordered r (too_many_rows h sessions accepted verb many) =
-    let same = same_accepted one bytes h g sessions _ accepted b.accepted in
-    few_rows command.rows (length sessions) (ap length same.1) within.rows.1 many
-run_not_refused one command bytes g opening changes _ within run b ordered r (not_one_session h sessions accepted verb few others) =
-    let same = same_accepted one bytes h g sessions _ accepted b.accepted in
-    others (ap length same.1)
-run_not_refused one command bytes g opening changes _ within run b ordered r (no_run h sessions accepted verb few takes none) =
-    let same = same_accepted one bytes h g sessions _ accepted b.accepted in
-    none opening changes (subst (λ (z : Grammar). IsBuilt bytes z opening changes) (sym same.0) b)
-run_not_refused one command bytes g opening changes _ within run b ordered r (not_ordered h sessions cycle accepted tells is) = runs_tell_nothing command run tells
-run_not_refused one command bytes g opening changes _ within run b ordered r (not_ordered_to_run h other edits cycle verb few c is) =
-    let same = same_accepted one bytes h g _ _ c.accepted b.accepted in
-    ordered_has_none h cycle cycle.is_extended is.production is.occurrence (subst (λ (z : Grammar). IsOrdered z []) (sym same.0) ordered) is.found
-run_not_refused one command bytes g opening changes _ within run b ordered r no_memory = absurd (cc)
+-- a count that is taken is no fault
+count_taken : (command : Command) (count : ℕ) (failure : Failure) → KeepsRows command count → IsCountFault command count failure → ⊥
+count_taken command count _ keeps (too_many_rows run many) = let few = keeps.rows run in absurd (omega arith)
+count_taken command count _ keeps (not_one_session solo few others) = others (keeps.number solo)
 
-order_not_refused : OneJob → (command : Command) (bytes : List ℕ) (g : Grammar) (ss : List Session) (failure : Failure) → TellsOrder command → IsAccepted bytes g ss → IsOrdered g []
-    → IsTrue (is_refusal failure) → IsCause command bytes failure → ⊥
-order_not_refused one command bytes g ss _ tells b ordered r (no_job fault some is none) = none b.job b.denotes
-order_not_refused one command bytes g ss _ tells b ordered r (not_accepted job fault some denotes is) =
-    no_fault job g ss fault (subst (λ (j : Job). HasSessions j g (Ok ss)) (one bytes b.job job b.denotes denotes) b.accepted) some is
-order_not_refused one command bytes g ss _ tells b ordered r (too_many_rows h sessions accepted run many) = runs_tell_nothing command run tells
-order_not_refused one command bytes g ss _ tells b ordered r (not_one_session h sessions accepted solo few others) = runs_tell_nothing command (inr solo) tells
-order_not_refused one command bytes g ss _ tells b ordered r (no_run h sessions accepted run few takes none) = runs_tell_nothing command run tells
-order_not_refused one command bytes g ss _ tells b ordered r (not_ordered h sessions cycle accepted too is) =
-    let same = same_accepted one bytes h g sessions ss accepted b in
-    ordered_has_none h cycle cycle.is_extended is.production is.occurrence (subst (λ (z : Grammar). IsOrdered z []) (sym same.0) ordered) is.found
-order_not_refused one command bytes g ss _ tells b ordered r (not_ordered_to_run h opening changes cycle run few c is) = runs_tell_nothing command run tells
-order_not_refused one command bytes g ss _ tells b ordered r no_memory = absurd (cc)
+-- a job that can be done is not refused
+job_not_refused : (command : Command) (job : Job) (failure : Failure) → CanBeDone command job → IsTrue (is_refusal failure) → IsJobCause command job failure → ⊥
+job_not_refused command job _ can r (not_accepted fault some is) = no_fault job can.grammar can.sessions fault can.accepted some is
+job_not_refused command job failure can r (other_count g ss _ has is) =
+    count_taken command (length can.sessions) failure can.rows (subst (λ (l : List Session). IsCountFault command (length l) failure) (same_sessions job g can.grammar ss can.sessions has can.accepted).1 is)
+job_not_refused command job _ can r (not_ordered g ss cycle has rows is) =
+    let same = same_sessions job g can.grammar ss can.sessions has can.accepted in
+    ordered_has_none g cycle cycle.is_extended is.production is.occurrence (subst (λ (z : Grammar). IsOrdered z []) (sym same.0) can.ordered) is.found
+job_not_refused command job _ can r no_memory = false≢true r
 
-not_refused_for : OneJob → (command : Command) (bytes : List ℕ) (v : Verb) → command.verb ≡ v → IsBuiltFor v bytes → (failure : Failure) → IsWithinRanges command
-    → IsTrue (is_refusal failure) → IsCause command bytes failure → ⊥
-not_refused_for one command bytes verb.Run is h failure within r cause = run_not_refused one command bytes h.0 h.1 h.2 failure within (inl is) h.3 h.4 r cause
-not_refused_for one command bytes verb.Solo is h failure within r cause = run_not_refused one command bytes h.0 h.1 h.2 failure within (inr is) h.3 h.4 r cause
-not_refused_for one command bytes verb.Check is h failure within r cause = order_not_refused one command bytes h.0 h.1 failure (inl is) h.2 h.3 r cause
-not_refused_for one command bytes verb.Plan is h failure within r cause = order_not_refused one command bytes h.0 h.1 failure (inr is) h.2 h.3 r cause
-not_refused_for one command bytes verb.Gen is h failure within r cause = h
+input_not_refused : OneJob → (command : Command) (bytes : List ℕ) (job : Job) (failure : Failure) → Denotes bytes job → CanBeDone command job → IsTrue (is_refusal failure) → IsCause command bytes failure → ⊥
+input_not_refused one command bytes job _ denotes can r (no_job fault some is none) = none job denotes
+input_not_refused one command bytes job failure denotes can r (of_job other _ denotes-too is) =
+    job_not_refused command job failure can r (subst (λ (j : Job). IsJobCause command j failure) (one bytes other job denotes-too denotes) is)
+input_not_refused one command bytes job _ denotes can r reads_no_memory = false≢true r
 
--- a job for which there is something to print is short
-short_job : (v : Verb) (bytes : List ℕ) → IsBuiltFor v bytes → length bytes ≤ TEXT_LIMIT
-short_job verb.Run bytes h = h.3.accepted.denotes.short
-short_job verb.Solo bytes h = h.3.accepted.denotes.short
-short_job verb.Check bytes h = h.2.denotes.short
-short_job verb.Plan bytes h = h.2.denotes.short
-short_job verb.Gen bytes h = absurd h
+-- a generated job is refused for its rows alone
+pub generated_refused : (command : Command) (failure : Failure) → command.verb ≡ verb.Gen → drawn.IsAccepted (generated command.seed command.nodes command.sessions) command.sessions → IsOrdered lets_grammar []
+    → IsJobCause command (generated command.seed command.nodes command.sessions) failure → ((failure ≡ f.TooManyRows) × (row_limit < command.rows * command.sessions)) ⊎ (failure ≡ f.Memory)
+generated_refused command _ gen is ordered (not_accepted fault some has) =
+    absurd (no_fault (generated command.seed command.nodes command.sessions) lets_grammar is.found fault is.has some has)
+generated_refused command failure gen is ordered (other_count g ss _ has count) = by failure count
+  where
+    as_many : length ss ≡ command.sessions
+    as_many = ap length (same_sessions (generated command.seed command.nodes command.sessions) g lets_grammar ss is.found has is.has).1 ∙ is.count
 
-unbuilt_has_none : (v : Verb) (bytes : List ℕ) → IsBuiltFor v bytes → IsUnbuiltVerb v → ⊥
-unbuilt_has_none v bytes h e = subst (λ (x : Verb). IsBuiltFor x bytes) e h
+    by : (failure : Failure) → IsCountFault command (length ss) failure → ((failure ≡ f.TooManyRows) × (row_limit < command.rows * command.sessions)) ⊎ (failure ≡ f.Memory)
+    by _ (too_many_rows run many) = inl (refl, subst (λ (n : ℕ). row_limit < command.rows * n) as_many many)
+    by _ (not_one_session solo few others) = absurd (cc)
+generated_refused command _ gen is ordered (not_ordered g ss cycle has rows c) =
+    let same = same_sessions (generated command.seed command.nodes command.sessions) g lets_grammar ss is.found has is.has in
+    absurd (ordered_has_none g cycle cycle.is_extended c.production c.occurrence (subst (λ (z : Grammar). IsOrdered z []) (sym same.0) ordered) c.found)
+generated_refused command _ gen is ordered no_memory = inr refl
+
+same_record : (c d : Command) → c.verb ≡ d.verb → c.rows ≡ d.rows → c.memo ≡ d.memo → c.depth ≡ d.depth → c.seed ≡ d.seed → c.nodes ≡ d.nodes → c.sessions ≡ d.sessions → c ≡ d
+same_record c d verbs rows memo depth seed nodes sessions =
+    ap (λ (x : Verb). record { verb = x; rows = c.rows; memo = c.memo; depth = c.depth; seed = c.seed; nodes = c.nodes; sessions = c.sessions }) verbs
+    ∙ ap (λ (x : ℕ). record { verb = d.verb; rows = x; memo = c.memo; depth = c.depth; seed = c.seed; nodes = c.nodes; sessions = c.sessions }) rows
+    ∙ ap (λ (x : ℕ). record { verb = d.verb; rows = d.rows; memo = x; depth = c.depth; seed = c.seed; nodes = c.nodes; sessions = c.sessions }) memo
+    ∙ ap (λ (x : ℕ). record { verb = d.verb; rows = d.rows; memo = d.memo; depth = x; seed = c.seed; nodes = c.nodes; sessions = c.sessions }) depth
+    ∙ ap (λ (x : ℕ). record { verb = d.verb; rows = d.rows; memo = d.memo; depth = d.depth; seed = x; nodes = c.nodes; sessions = c.sessions }) seed
+    ∙ ap (λ (x : ℕ). record { verb = d.verb; rows = d.rows; memo = d.memo; depth = d.depth; seed = d.seed; nodes = x; sessions = c.sessions }) nodes
+    ∙ ap (λ (x : ℕ). record { verb = d.verb; rows = d.rows; memo = d.memo; depth = d.depth; seed = d.seed; nodes = d.nodes; sessions = x }) sessions
+
+same_command : (words : List (List ℕ)) (c d : Command) → Says words c → Says words d → (c ≡ d)
+same_command words c d a b =
+    let v = a.verb in let w = b.verb in let verbs : c.verb ≡ d.verb = cc in
+    let r = a.rows in let s = b.rows in let rows : c.rows ≡ d.rows = cc in
+    let m = a.memo in let n = b.memo in let memo : c.memo ≡ d.memo = cc in
+    let e = a.depth in let f = b.depth in let depth : c.depth ≡ d.depth = cc in
+    let x = a.seed in let y = b.seed in let seed : c.seed ≡ d.seed = cc in
+    let p = a.nodes in let q = b.nodes in let nodes : c.nodes ≡ d.nodes = cc in
+    let t = a.sessions in let u = b.sessions in let sessions : c.sessions ≡ d.sessions = cc in
+    same_record c d verbs rows memo depth seed nodes sessions
+
+-- words that ask for a command that reads nothing ask for no other
+pub same_kept : (words : List (String Global)) (command other : Command) → Says (texts words) command → Says (texts words) other → ReadsNothing other.verb → ReadsNothing command.verb
+same_kept words command other says also nothing = subst (λ (c : Command). ReadsNothing c.verb) (same_command (texts words) other command also says) nothing
 
 pub not_refused : OneJob → (words : List (String Global)) (command : Command) (left left' : Option (List ℕ)) (failure : Failure) → Says (texts words) command → HoldsJob command left
     → IsTrue (is_refusal failure) → Refused words left left' failure → ⊥
-not_refused one words command None left' failure says job r refused = job
-not_refused one words command (Some bytes) left' failure says job r refused = by failure r refused.refused
+not_refused one words command left left' failure says holds r refused = by failure holds r (subst (λ (c : Command). IsRefused c left left' failure) (same_command (texts words) refused.command command refused.says says) refused.refused)
   where
-    same-verb : refused.command.verb ≡ command.verb
-    same-verb = same_command (texts words) refused.command command refused.says says
-
-    moved : IsBuiltFor refused.command.verb bytes
-    moved = subst (λ (v : Verb). IsBuiltFor v bytes) (sym same-verb) job
-
-    by : (failure : Failure) → IsTrue (is_refusal failure) → IsRefused refused.command (Some bytes) left' failure → ⊥
-    by _ r (unread unbuilt keeps) = unbuilt_has_none refused.command.verb bytes moved unbuilt
-    by _ r (read input failure built taken cause) =
-        let short = short_job refused.command.verb bytes moved in
-        let whole : input ≡ bytes = taken.0 ∙ take_all input_limit bytes (omega arith) in
-        not_refused_for one refused.command bytes refused.command.verb refl moved failure refused.within r (subst (λ (z : List ℕ). IsCause refused.command z failure) whole cause)
+    by : (failure : Failure) → HoldsJob command left → IsTrue (is_refusal failure) → IsRefused command left left' failure → ⊥
+    by failure (told bytes job reads is denotes can) r (read input _ reads-too taken cause) =
+        let short : length bytes ≤ TEXT_LIMIT = denotes.short in
+        let from : TakesUpTo input_limit (Some bytes) left' input = subst (λ (o : Option (List ℕ)). TakesUpTo input_limit o left' input) is taken in
+        let whole : input ≡ bytes = from.0 ∙ take_all input_limit bytes (omega arith) in
+        input_not_refused one command bytes job failure denotes can r (subst (λ (z : List ℕ). IsCause command z failure) whole cause)
+    by _ (told bytes job reads is denotes can) r (generates nothing keeps many) = reads_something command.verb reads nothing
+    by failure (generates_job nothing few) r (read input _ reads taken cause) = reads_something command.verb reads nothing
+    by _ (generates_job nothing few) r (generates _ keeps many) = absurd (omega arith)

@@ -1,13 +1,11 @@
 -- Why a job is refused, in the order in which faults are looked for: its text, its acceptance, for a run the rows of its
--- sessions, with counts their number, and what is not built yet, and then the ordered test.
-use Rattle.std.specs.Prelude.{◌≡◌, ◌≢◌, ◌⊎◌, ℕ, ◌*◌, ◌<◌, ◌≤◌, Bool, true, false, List, [], length, Some, slice_get}
+-- sessions, with counts their number, and then the ordered test.
+use Rattle.std.specs.Prelude.{◌≡◌, ◌≢◌, ◌⊎◌, ℕ, ◌*◌, ◌<◌, ◌≤◌, Bool, true, false, List, [], length, Some, Ok, slice_get}
 use Rattle.lrc_base.specs.declared.limits.TheConstants.{ROW_LIMIT}
 use Rattle.lrc_base.specs.declared.job.Job.{Job}
 use Rattle.lrc_base.specs.declared.grammar.Production.{Production}
 use Rattle.lrc_base.specs.declared.signature.Occurrence.{Occurrence}
-use Rattle.lrc_meaning.specs.Tree.{Tree}
 use Rattle.lrc_meaning.specs.Grammar.{Grammar}
-use Rattle.lrc_meaning.specs.Editing.{Change}
 use Rattle.lrc_meaning.specs.Signature.{signature_of}
 use Rattle.lrc_order_meaning.specs.Ordered.{IsInducedCycle, IsExtendedCycle}
 use Rattle.lrc_reader.specs.Denotes.{Denotes}
@@ -19,11 +17,10 @@ use Rattle.lrc_reader.specs.declared.fault.JobFault.TheVariants as text
 use Rattle.lrc_job.specs.declared.fault.AcceptFault.{AcceptFault}
 use Rattle.lrc_job.specs.declared.fault.AcceptFault.TheVariants as accept
 use Rattle.lrc_reader.specs.Faults.{FirstTextFault}
-use Rattle.lrc_job.specs.Job.{Session, IsFaultOf}
+use Rattle.lrc_job.specs.Job.{Session, HasSessions, IsFaultOf}
 use Rattle.lrc_failures.specs.declared.failure.Cycle.{Cycle}
 use Rattle.lrc_failures.specs.declared.failure.Failure.{Failure}
 use Rattle.lrc_failures.specs.declared.failure.Failure.TheVariants as f
-use Rattle.lrc_cli.specs.Headline.{IsAccepted, IsBuilt}
 
 -- the most rows of all sessions together
 abbrev pub row_limit : ℕ
@@ -62,45 +59,42 @@ pub data IsUnordered (g : Grammar) : Failure → Type 0 where
   has_cycle : (cycle : Cycle) → IsCycle g cycle → IsUnordered g (f.NotOrdered cycle)
   has_no_memory : IsUnordered g f.Memory
 
--- nothing of the command is built yet
-abbrev pub IsUnbuiltVerb : Verb → Type 0
-IsUnbuiltVerb v = v ≡ verb.Gen
+-- the command reads a job; `gen` makes its own
+abbrev pub ReadsJob : Verb → Type 0
+ReadsJob v = (v ≡ verb.Run) ⊎ ((v ≡ verb.Solo) ⊎ ((v ≡ verb.Check) ⊎ (v ≡ verb.Plan)))
 
-abbrev pub IsUnbuilt : Command → Type 0
-IsUnbuilt command = IsUnbuiltVerb command.verb
-
--- something of it is
-abbrev pub IsBuiltVerb : Verb → Type 0
-IsBuiltVerb v = (v ≡ verb.Run) ⊎ ((v ≡ verb.Solo) ⊎ ((v ≡ verb.Check) ⊎ (v ≡ verb.Plan)))
-
--- the command reads nothing: `gen`, which makes its own job
+-- the command reads nothing
 abbrev pub ReadsNothing : Verb → Type 0
 ReadsNothing v = v ≡ verb.Gen
 
 -- the command runs the sessions of a job
 abbrev pub RunsSessions : Verb → Type 0
-RunsSessions v = (v ≡ verb.Run) ⊎ (v ≡ verb.Solo)
+RunsSessions v = (v ≡ verb.Run) ⊎ ((v ≡ verb.Solo) ⊎ (v ≡ verb.Gen))
 
 -- it runs so many
 abbrev pub TakesSessions : Verb → ℕ → Type 0
 TakesSessions v sessions = v ≡ verb.Solo → sessions ≡ 1
 
--- the command tells of any job whether its grammar is ordered
-abbrev pub TellsOrder : Command → Type 0
-TellsOrder command = (command.verb ≡ verb.Check) ⊎ (command.verb ≡ verb.Plan)
+-- what comes before the ordered test is in order: for a run the rows of all sessions, and with counts their number
+pub record KeepsRows (command : Command) (sessions : ℕ) : Type 0 where
+  pub rows : RunsSessions command.verb → command.rows * sessions ≤ row_limit
+  pub number : TakesSessions command.verb sessions
+
+-- Why a command does not take so many sessions.
+pub data IsCountFault (command : Command) (sessions : ℕ) : Failure → Type 0 where
+  too_many_rows : RunsSessions command.verb → row_limit < command.rows * sessions → IsCountFault command sessions f.TooManyRows
+  not_one_session : command.verb ≡ verb.Solo → command.rows * sessions ≤ row_limit → sessions ≢ 1 → IsCountFault command sessions f.NotOneSession
+
+-- Why a job is refused.
+pub data IsJobCause (command : Command) (job : Job) : Failure → Type 0 where
+  not_accepted : (fault : AcceptFault) → fault ≢ accept.Memory → IsFaultOf job fault → IsJobCause command job (f.Accept fault)
+  other_count : (g : Grammar) (sessions : List Session) (failure : Failure) → HasSessions job g (Ok sessions) → IsCountFault command (length sessions) failure → IsJobCause command job failure
+  not_ordered : (g : Grammar) (sessions : List Session) (cycle : Cycle) → HasSessions job g (Ok sessions) → KeepsRows command (length sessions) → IsCycle g cycle
+      → IsJobCause command job (f.NotOrdered cycle)
+  no_memory : IsJobCause command job f.Memory
 
 -- Why the input is refused.
 pub data IsCause (command : Command) (input : List ℕ) : Failure → Type 0 where
   no_job : (fault : JobFault) → fault ≢ text.Memory → FirstTextFault input fault → ((job : Job) → ¬ Denotes input job) → IsCause command input (f.Text fault)
-  not_accepted : (job : Job) (fault : AcceptFault) → fault ≢ accept.Memory → Denotes input job → IsFaultOf job fault → IsCause command input (f.Accept fault)
-  too_many_rows : (g : Grammar) (sessions : List Session) → IsAccepted input g sessions → RunsSessions command.verb
-      → row_limit < command.rows * length sessions → IsCause command input f.TooManyRows
-  not_one_session : (g : Grammar) (sessions : List Session) → IsAccepted input g sessions → command.verb ≡ verb.Solo → command.rows * length sessions ≤ row_limit
-      → length sessions ≢ 1 → IsCause command input f.NotOneSession
-  no_run : (g : Grammar) (sessions : List Session) → IsAccepted input g sessions → RunsSessions command.verb → command.rows * length sessions ≤ row_limit
-      → TakesSessions command.verb (length sessions) → ((opening : Tree) (changes : List Change) → ¬ IsBuilt input g opening changes) → IsCause command input f.NotBuilt
-  not_ordered : (g : Grammar) (sessions : List Session) (cycle : Cycle) → IsAccepted input g sessions → TellsOrder command → IsCycle g cycle
-      → IsCause command input (f.NotOrdered cycle)
-  not_ordered_to_run : (g : Grammar) (opening : Tree) (changes : List Change) (cycle : Cycle) → RunsSessions command.verb → command.rows ≤ row_limit → IsBuilt input g opening changes
-      → IsCycle g cycle → IsCause command input (f.NotOrdered cycle)
-  no_memory : IsCause command input f.Memory
+  of_job : (job : Job) (failure : Failure) → Denotes input job → IsJobCause command job failure → IsCause command input failure
+  reads_no_memory : IsCause command input f.Memory

@@ -1,5 +1,6 @@
 pub mod Printed
 pub mod Headline
 pub mod Causes
-pub mod Running
+pub mod Summary
 pub mod Status
+pub mod Running

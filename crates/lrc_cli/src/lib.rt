@@ -4,7 +4,10 @@
 
 mod job;
 mod order;
+mod planning;
+mod prepared;
 mod run;
+mod summary;
 mod text;
 mod top;
 

@@ -1,16 +1,13 @@
 ghost use Rattle.std.specs.Prelude.{◌≡◌, [], IfOk, IfErr};
 ghost use Rattle.lrc_grammar.specs.Grammar.{grammar_of};
 ghost use Rattle.lrc_ordered.specs.Faults.{IsOrderFault};
-ghost use Rattle.lrc_cli.specs.Causes.{IsPlaced, IsNamed, IsCycleAt, IsUnordered, TellsOrder, IsCause};
-ghost use Rattle.lrc_cli.specs.Headline.{IsOrderedBy, HasPartitions, IsPartsOf, IsPlanOf};
+ghost use Rattle.lrc_cli.specs.Causes.{IsPlaced, IsNamed, IsCycleAt, IsUnordered};
+ghost use Rattle.lrc_cli.specs.Headline.{IsOrderedBy};
 
-use crate::job::accepted_job;
-use lrc_base::Bytes;
 use lrc_failures::{Cycle, Failure};
 use lrc_grammar::Grammar;
 use lrc_ordered::{OrderFault, ordered};
-use lrc_plan::{Plan, parts_text, plan, plan_text};
-use lrc_words::Command;
+use lrc_plan::{Plan, plan};
 use std::alloc::Global;
 
 /// The cycle at an occurrence of a production, by their names.
@@ -69,48 +66,4 @@ pub fn plan_of(alloc: Global, grammar: &Grammar) -> Result<Plan, Failure>
         Ok(parts) => Ok(plan(alloc, copy, parts)?),
         Err(fault) => Err(failure_of(grammar, fault)),
     }
-}
-
-/// The plan of the grammar of the job that the bytes denote.
-///
-/// # Errors
-///
-/// The first fault of the job, else that its grammar is not ordered, and want of memory.
-fn planned(alloc: Global, command: &Command, bytes: &[u8]) -> Result<Plan, Failure>
-    requires { TellsOrder command.now }
-    ensures plan { IfOk result (λ plan. HasPartitions bytes.now (grammar_of plan.grammar) plan.parts) }
-    ensures cause { IfErr result (IsCause command.now bytes.now) }
-{
-    let accepted = accepted_job(alloc, bytes)?;
-    plan_of(alloc, &accepted.grammar)
-}
-
-/// The text of the partitions of a job's grammar.
-///
-/// # Errors
-///
-/// As [`planned`].
-pub fn partitions(alloc: Global, command: &Command, bytes: &[u8]) -> Result<Bytes, Failure>
-    requires { TellsOrder command.now }
-    ensures text { IfOk result (IsPartsOf bytes.now) }
-    ensures cause { IfErr result (IsCause command.now bytes.now) }
-{
-    let plan = planned(alloc, command, bytes)?;
-    Ok(parts_text(alloc, &plan)?)
-}
-
-/// The text of the partitions of a job's grammar, and then of its visit sequences and bindings.
-///
-/// # Errors
-///
-/// As [`planned`].
-pub fn sequences(alloc: Global, command: &Command, bytes: &[u8]) -> Result<Bytes, Failure>
-    requires { TellsOrder command.now }
-    ensures text { IfOk result (IsPlanOf bytes.now) }
-    ensures cause { IfErr result (IsCause command.now bytes.now) }
-{
-    let plan = planned(alloc, command, bytes)?;
-    let mut text = parts_text(alloc, &plan)?;
-    text.append(plan_text(alloc, &plan)?)?;
-    Ok(text)
 }

@@ -1,18 +1,19 @@
-ghost use Rattle.std.specs.Prelude.{◌≡◌, ◌++◌, OnOk, IfOk, decimal};
+ghost use Rattle.std.specs.Prelude.{◌≡◌, ◌++◌, OnOk, IfOk, decimal, true, false};
 ghost use Rattle.lrc_meaning.specs.Text.{line_feed};
 ghost use Rattle.lrc_meaning.specs.Editing.{has_values};
 ghost use Rattle.lrc_run.specs.Counts.{counts_of, counts_text};
 ghost use Rattle.lrc_run.specs.Lines.{reply_of};
-ghost use Rattle.lrc_cli.specs.Printed.{goes_on, line_counts, numbered_lines, final_line, one_session};
+ghost use Rattle.lrc_cli.specs.Printed.{goes_on, line_counts, numbered_lines, block, blocks, final_line, final_lines, own_final, one_session, all_sessions};
 
 use itoa::Buffer;
-use lrc_base::Memory;
+use lrc_base::{Bytes, List, Memory};
 use lrc_run::{Line, Out, Outcome};
 use lrc_store::Handle;
+use lrc_threads::Outs;
 use std::alloc::Global;
 
 /// Appends a number in decimal.
-fn push_number(text: &mut Vec<u8>, number: u64) -> Result<(), Memory>
+pub(crate) fn push_number(text: &mut Vec<u8>, number: u64) -> Result<(), Memory>
     ensures { OnOk result (text.new.items ≡ text.old.items ++ decimal number) }
 {
     let mut buffer = Buffer::new();
@@ -31,7 +32,7 @@ fn goes_on(counted: bool, outcome: Outcome) -> bool
     counted && !stops
 }
 
-fn has_values(outcome: Outcome) -> bool
+pub(crate) fn has_values(outcome: Outcome) -> bool
     ensures { result ≡ has_values (reply_of outcome) }
 {
     matches!(outcome, Outcome::Values)
@@ -74,29 +75,74 @@ fn push_lines(text: &mut Vec<u8>, lines: &[Line], counted: bool) -> Result<(), M
     Ok(())
 }
 
-/// Appends the final line of the one session: its own number, or `-` where its opening was refused.
-fn push_final(text: &mut Vec<u8>, last: Option<Handle>) -> Result<(), Memory>
-    ensures { OnOk result (text.new.items ≡ text.old.items ++ final_line last) }
+/// Appends the block of a session, by its number.
+fn push_block(text: &mut Vec<u8>, number: u64, lines: &[Line], counted: bool) -> Result<(), Memory>
+    ensures { OnOk result (text.new.items ≡ text.old.items ++ block counted number lines.now) }
+{
+    text.extend_from_slice(b"session ")?;
+    push_number(text, number)?;
+    text.extend_from_slice(b"\n")?;
+    push_lines(text, lines, counted)
+}
+
+/// Appends the final of a session, by its number: that of a session, or `-`.
+fn push_final(text: &mut Vec<u8>, number: u64, found: &Option<u32>) -> Result<(), Memory>
+    ensures { OnOk result (text.new.items ≡ text.old.items ++ final_line number found.now) }
 {
     text.extend_from_slice(b"final ")?;
-    push_number(text, 1)?;
+    push_number(text, number)?;
     text.extend_from_slice(b" ")?;
-    match last {
-        Some(_) => push_number(text, 1)?,
+    match found {
+        Some(first) => push_number(text, u64::from(*first))?,
         None => text.extend_from_slice(b"-")?,
     }
     text.extend_from_slice(b"\n")?;
     Ok(())
 }
 
-/// The text of a run of one session, by its lines, with counts or without.
-pub fn session_text(alloc: Global, out: &Out, counted: bool) -> Result<Vec<u8>, Memory>
-    ensures { IfOk result (λ text. text.items ≡ one_session counted out.now) }
+/// Appends the blocks of sessions, numbered from 1 on.
+fn push_blocks(text: &mut Vec<u8>, sessions: &[List<Line>]) -> Result<(), Memory>
+    ensures { OnOk result (text.new.items ≡ text.old.items ++ blocks 1 sessions.now) }
 {
-    let mut text = Vec::from_slice(alloc, b"session ")?;
-    push_number(&mut text, 1)?;
-    text.extend_from_slice(b"\n")?;
-    push_lines(&mut text, out.lines.as_slice(), counted)?;
-    push_final(&mut text, out.last)?;
-    Ok(text)
+    for (before, lines) in sessions.iter().enumerate() {
+        push_block(text, before as u64 + 1, lines.as_slice(), false)?;
+    }
+    Ok(())
+}
+
+/// Appends the finals of sessions, numbered from 1 on.
+fn push_finals(text: &mut Vec<u8>, finals: &[Option<u32>]) -> Result<(), Memory>
+    ensures { OnOk result (text.new.items ≡ text.old.items ++ final_lines 1 finals.now) }
+{
+    for (before, found) in finals.iter().enumerate() {
+        push_final(text, before as u64 + 1, found)?;
+    }
+    Ok(())
+}
+
+/// The text of a run of sessions, by their lines and finals.
+pub fn sessions_text(alloc: Global, outs: &Outs) -> Result<Bytes, Memory>
+    ensures { IfOk result (λ text. text ≡ all_sessions outs.now) }
+{
+    let mut text = Vec::new(alloc);
+    push_blocks(&mut text, outs.sessions.as_slice())?;
+    push_finals(&mut text, outs.finals.as_slice())?;
+    Ok(Bytes::from_vec(text))
+}
+
+/// The final of the one session of a job: its own number, if it opened.
+fn own_final(last: Option<Handle>) -> Option<u32>
+    ensures { result ≡ own_final last }
+{
+    last.map(|_| 1)
+}
+
+/// The text of a run of one session with its counts.
+pub fn counted_text(alloc: Global, out: &Out) -> Result<Bytes, Memory>
+    ensures { IfOk result (λ text. text ≡ one_session out.now) }
+{
+    let mut text = Vec::new(alloc);
+    push_block(&mut text, 1, out.lines.as_slice(), true)?;
+    push_final(&mut text, 1, &own_final(out.last))?;
+    Ok(Bytes::from_vec(text))
 }

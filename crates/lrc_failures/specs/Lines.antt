@@ -27,7 +27,6 @@ status_of (f.Text fault) = 5
 status_of (f.Accept fault) = 5
 status_of f.TooManyRows = 5
 status_of f.NotOneSession = 5
-status_of f.NotBuilt = 5
 status_of (f.NotOrdered cycle) = 6
 status_of f.Memory = 7
 
@@ -126,7 +125,6 @@ parts_of (f.Text fault) = text_parts fault
 parts_of (f.Accept fault) = accept_parts fault
 parts_of f.TooManyRows = of_job (codes "too many rows")
 parts_of f.NotOneSession = of_job (codes "solo wants one session")
-parts_of f.NotBuilt = of_job (codes "not built")
 parts_of (f.NotOrdered cycle) = cycle_parts cycle
 parts_of f.Memory = alone (codes "lrc: no memory")
 

@@ -35,8 +35,6 @@ pub enum Failure {
     TooManyRows,
     /// The command takes one session, and the job has another number of them.
     NotOneSession,
-    /// The job, or the command, is not built yet.
-    NotBuilt,
     /// The grammar is not ordered.
     NotOrdered(Cycle),
     /// Want of memory.
@@ -52,11 +50,8 @@ impl Failure {
             Failure::Usage => 2,
             Failure::Read => 3,
             Failure::Write => 4,
-            Failure::Text(_)
-            | Failure::Accept(_)
-            | Failure::TooManyRows
-            | Failure::NotOneSession
-            | Failure::NotBuilt => 5,
+            Failure::Text(_) | Failure::Accept(_) | Failure::TooManyRows | Failure::NotOneSession =>
+                5,
             Failure::NotOrdered(_) => 6,
             Failure::Memory => 7,
         }

@@ -233,7 +233,6 @@ pub fn put_line<E: Sink>(err: &mut E, failure: &Failure) -> Result<(), Failed>
         Failure::Accept(fault) => put_accept(err, fault),
         Failure::TooManyRows => put_of_job(err, b"too many rows"),
         Failure::NotOneSession => put_of_job(err, b"solo wants one session"),
-        Failure::NotBuilt => put_of_job(err, b"not built"),
         Failure::NotOrdered(cycle) => put_cycle(err, cycle),
         Failure::Memory => put_alone(err, b"lrc: no memory"),
     }

@@ -3,10 +3,16 @@ use Rattle.std.proofs.Common.{◌≡◌, ℕ, ◌+◌, ◌<◌, List, [], ◌∷
 use Rattle.std.specs.Prelude.{IfOk}
 use Rattle.std.proofs.lemmas.List.{map-append, take_more}
 use Rattle.lrc_base.specs.declared.job.Edit.{Edit}
+use Rattle.lrc_meaning.specs.Tree.{Tree}
 use Rattle.lrc_meaning.specs.Grammar.{Grammar}
 use Rattle.lrc_meaning.specs.Editing.{Reply, unopened, Change, change, all_unopened}
+use Rattle.lrc_store.specs.Standing.{Standing}
+use Rattle.lrc_session.specs.declared.session.Session.{Session}
+use Rattle.lrc_session.specs.declared.fault.EditFault.{EditFault}
 use Rattle.lrc_run.specs.declared.reply.Line.{Line}
-use Rattle.lrc_run.specs.Lines.{IsLine, AreLines, HasOneMore}
+use Rattle.lrc_run.specs.declared.reply.Outcome.{Outcome}
+use Rattle.lrc_run.specs.Lines.{IsLine, AreLines, HasOneMore, reply_of, outcome_of}
+use Rattle.lrc_run.specs.Editing.{IsAnswer}
 
 -- two facts of an answer
 pub both_ok : {A E : Type 0} (r : Result A E) (P Q R : A → Type 0) → ((x : A) → P x → Q x → R x) → IfOk r P → IfOk r Q → IfOk r R
@@ -40,3 +46,9 @@ one_unopened_more g reply edits i lines after e h is are more =
     (subst (λ cs. AreLines g (reply ∷ cs) (lines ++ more.line ∷ []))
     (sym (unopened_more (map change (take i edits)) (change e)) ∙ ap all_unopened (sym (changes_more edits i e h is)))
     (one_line_more g (reply ∷ all_unopened (map change (take i edits))) lines unopened more.line are more.is_line))
+
+-- the line of what was refused
+pub refused_line : (g : Grammar) (s : Standing) (session : Session) (vs : List Tree) (answer : Result (Unit {0}) EditFault) (fault : EditFault) (outcome : Outcome) (line : Line) → answer ≡ Err fault → outcome ≡ outcome_of fault →
+    IsLine g (reply_of outcome) line → IsAnswer g s session vs answer line
+refused_line g s session vs answer fault outcome line refused same is =
+    subst (λ a. IsAnswer g s session vs a line) (sym refused) (subst (λ o. IsLine g (reply_of o) line) same is)

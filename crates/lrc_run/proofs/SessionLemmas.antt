@@ -1,13 +1,16 @@
 -- A whole session: its opening, and its edits one after another.
-use Rattle.std.proofs.Common.{◌≡◌, ℕ, ◌+◌, ◌-◌, ◌<◌, ◌^◌, List, [], ◌∷◌, ◌++◌, map, length, take, get_or, Some, None, sym, ap, ◌∙◌, subst, append_assoc}
+use Rattle.std.proofs.Common.{◌≡◌, ℕ, ◌+◌, ◌-◌, ◌<◌, ◌^◌, IsTrue, List, [], ◌∷◌, ◌++◌, map, length, take, get_or, Some, None, sym, ap, ◌∙◌, subst, append_assoc}
 use Rattle.std.proofs.lemmas.List.{append-nil}
-use Rattle.std.proofs.lemmas.Bool.{false≢true}
+use Rattle.std.proofs.lemmas.Bool.{false≢true, and_parts}
+use Rattle.std.specs.List.{list_all}
+use Rattle.lrc_base.specs.declared.grammar.Kind.TheVariants as k
 use Rattle.lrc_base.specs.declared.job.Edit.{Edit}
 use Rattle.lrc_base.specs.declared.job.Script.{Script}
-use Rattle.lrc_meaning.specs.Tree.{Tree, tree}
+use Rattle.lrc_meaning.specs.Tree.{Tree, tree, fits}
 use Rattle.lrc_meaning.specs.Attribution.{Attributes}
 use Rattle.lrc_meaning.specs.Text.{unparsed}
 use Rattle.lrc_meaning.specs.Editing.{values, too_deep, full, Change, change, tried, gives, is_too_deep, is_full, done, opens, opens_too_deep, opens_full, all_unopened}
+use Rattle.lrc_job.specs.Fitting.{edit_fits, script_fits}
 use Rattle.lrc_order_meaning.specs.Ordered.{HasOrder}
 use Rattle.lrc_store.specs.Standing.{Standing}
 use Rattle.lrc_store.specs.Words.{Gains, LacksOne}
@@ -31,6 +34,12 @@ use Rattle.lrc_run.proofs.TallyLemmas.{IsAnswered, tallied_none, tallied_read, t
 use Rattle.lrc_run.proofs.CountedLemmas.{all_more, too_deep_counted, full_counted, counted_more}
 
 module _ (functions : Functions) where
+  -- the tree of a script that fits is one of the start sort
+  pub script_starts : (script : Script) → IsTrue (script_fits functions.plan.grammar.prods functions.plan.grammar.start script) → IsStartTree functions (tree script.tree)
+  script_starts script fit =
+      let prods = functions.plan.grammar.prods in
+      (and_parts (fits prods (tree script.tree) (k.Sort functions.plan.grammar.start)) (list_all (edit_fits prods) script.edits) fit).0
+
   -- ---- edits one after another
 
   -- no edit was made
@@ -125,6 +134,7 @@ module _ (functions : Functions) where
           holds = r.holds;
           lines = subst (AreLines (grammar functions) (values o.values ∷ a.replies)) (sym a.all) (p.is_line, a.are_lines);
           is_last = subst (λ (x : Handle). IsLast u (Some a.after) (Some x)) (sym same) a.is_open.tree;
+          spelled = a.is_open.spelled;
           counted = λ fresh.
               subst (λ (ls : List Line). IsCounted (grammar functions) (sorts functions) limit (tree script.tree) (map change script.edits) (values o.values ∷ a.replies) (map counts_of ls)) (sym a.all)
               (line_counted functions limit s t [] attempt (answered fresh) v session p.opening p.reads p.counts is.runs, r.counted (tallied fresh));
@@ -143,6 +153,7 @@ module _ (functions : Functions) where
             holds = holds_more functions limit s t [] (tried opening too_deep) (holds_none functions limit s unused) gains (λ e. absurd (false≢true e));
             lines = lines;
             is_last = subst (λ x. IsLast t None x) (sym last) tt;
+            spelled = tt;
             counted = λ _. too_deep_counted (grammar functions) (sorts functions) limit opening (map change script.edits) (all_unopened (map change script.edits)) out.lines lines;
             tallies = λ _ each. absurd (false≢true each);
           }
@@ -159,6 +170,7 @@ module _ (functions : Functions) where
             holds = holds_more functions limit s t [] (tried opening full) none gains (λ e. absurd (false≢true e));
             lines = lines;
             is_last = subst (λ x. IsLast t None x) (sym last) tt;
+            spelled = tt;
             counted = λ _. full_counted (grammar functions) (sorts functions) limit opening (map change script.edits) (all_unopened (map change script.edits)) out.lines lines;
             tallies = λ _ each. absurd (false≢true each);
           }

@@ -1,18 +1,26 @@
--- The text of values, as it is appended value by value.
-use Rattle.std.proofs.Common.{◌≡◌, ℕ, ◌+◌, ◌<◌, true, false, cond, List, [], ◌∷◌, ◌++◌, length, drop, get_or, Some, None, refl, sym, ap, ◌∙◌, append_assoc}
+-- The text of values, as it is appended value by value, and the number that the first of them is.
+use Rattle.std.proofs.Common.{◌≡◌, ℕ, ◌+◌, ◌<◌, ℤ, pos, true, false, cond, List, [], ◌∷◌, ◌++◌, length, drop, get_or, Some, None, ◌⊎◌, inl, inr, refl, sym, ap, ◌∙◌, append_assoc}
 use Rattle.std.specs.List.{AllByRecursion}
 use Rattle.std.proofs.lemmas.List.{append-nil}
 use Rattle.std.proofs.Math.Seq.{drop-length}
 use Rattle.lrc_base.specs.declared.grammar.Attr.{Attr}
 use Rattle.lrc_base.specs.declared.grammar.Production.{Production}
-use Rattle.lrc_meaning.specs.Tree.{Tree}
+use Rattle.lrc_meaning.specs.Tree.{Tree, int, bool, name, node}
 use Rattle.lrc_meaning.specs.Text.{named_values, synthesised_attrs}
 use Rattle.lrc_grammar.proofs.ListLemmas.{next_left}
-use Rattle.lrc_store.specs.Standing.{Standing, Stands}
+use Rattle.lrc_store.specs.Cells.{nil, number, pair}
+use Rattle.lrc_store.specs.Standing.{Standing, Stands, meant}
+use Rattle.lrc_store.specs.declared.cells.Cell.{Cell}
+use Rattle.lrc_store.specs.declared.cells.Cell.TheVariants as cell
 use Rattle.lrc_store.specs.declared.cells.Handle.{Handle}
+use Rattle.lrc_store.specs.Words.{Shows}
+use Rattle.lrc_store.proofs.Known.{stands-meant}
+use Rattle.lrc_code.specs.Forms.{tree_cell}
 use Rattle.lrc_call_meaning.specs.Forms.{values_cell}
 use Rattle.lrc_call_meaning.specs.Spelled.{IsSpelled}
-use Rattle.lrc_run.specs.Values.{Pushes}
+use Rattle.lrc_eval.proofs.ValueLemmas.{number-tree}
+use Rattle.lrc_run.specs.Lines.{first_number}
+use Rattle.lrc_run.specs.Values.{Begins, Pushes}
 
 -- the text of the values that the handle stands for, by these attributes, completes a whole
 pub record Completes (prods : List Production) (s : Standing) (attrs : List Attr) (left : ℕ) (text whole : List ℕ) : Type 0 where
@@ -75,3 +83,35 @@ module _ (prods : List Production) (attrs : List Attr) (i : ℕ) (a : Attr) (the
 pub all_passed : (prods : List Production) (s : Standing) (attrs : List Attr) (i left : ℕ) (text whole : List ℕ) → i ≡ length attrs → Completes prods s (drop i attrs) left text whole → text ≡ whole
 all_passed prods s attrs i left text whole e c =
     sym (ap (λ xs. text ++ named_values prods (synthesised_attrs xs) c.own) (ap (λ n. drop n attrs) e ∙ drop-length attrs) ∙ append-nil text) ∙ c.completes
+
+-- ---- the first value, as a number
+
+-- the number that is shown, or 0
+abbrev shown_number : Cell → ℤ
+shown_number cell.Nil = pos 0
+shown_number (cell.Number n) = n
+shown_number (cell.Pair tag left right) = pos 0
+
+is_number : (v : Tree) (vs : List Tree) (n : ℤ) → tree_cell v ≡ number n → n ≡ first_number (v ∷ vs)
+is_number v vs n e = ap (λ t. first_number (t ∷ vs)) (sym (number-tree v n e))
+
+is_no_number : (v : Tree) (vs : List Tree) → ((n : ℤ) → ¬ (tree_cell v ≡ number n)) → pos 0 ≡ first_number (v ∷ vs)
+is_no_number (int n) vs other = absurd (other n refl)
+is_no_number (bool b) vs other = refl
+is_no_number (name bytes) vs other = refl
+is_no_number (node p kids) vs other = refl
+
+pub number_shown : (s t : Standing) (vs : List Tree) (found : Handle × Handle) (shown : Cell) → Begins s vs (Some found) → Shows t shown (meant s found.0.0) → shown_number shown ≡ first_number vs
+number_shown s t [] found shown begins shows = absurd begins
+number_shown s t (v ∷ vs) found cell.Nil begins shows =
+    let stands = stands-meant s found.0.0 (tree_cell v) begins.0 in
+    is_no_number v vs (λ n e. let apart : nil ≡ number n = sym shows ∙ stands ∙ e in absurd (cc))
+number_shown s t (v ∷ vs) found (cell.Number n) begins shows = is_number v vs n (sym (stands-meant s found.0.0 (tree_cell v) begins.0) ∙ shows)
+number_shown s t (v ∷ vs) found (cell.Pair tag left right) begins shows =
+    let stands = stands-meant s found.0.0 (tree_cell v) begins.0 in
+    is_no_number v vs (λ n e. let apart : pair tag (meant t left.0) (meant t right.0) ≡ number n = sym shows.2 ∙ stands ∙ e in absurd (cc))
+
+-- what is shown is no number
+pub none_shown : (shown : Cell) → (shown ≡ cell.Nil) ⊎ ((tag : ℕ) × (left : Handle) × (right : Handle) × (shown ≡ cell.Pair tag left right)) → pos 0 ≡ shown_number shown
+none_shown shown (inl is) = ap shown_number (sym is)
+none_shown shown (inr (tag, left, right, is)) = ap shown_number (sym is)

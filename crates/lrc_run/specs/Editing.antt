@@ -1,5 +1,5 @@
 -- What the edits of an open session are answered over a store, one after another.
-use Rattle.std.specs.Prelude.{ℕ, ◌≡◌, not, IsTrue, List, [], ◌∷◌, ◌++◌, map, ⊤}
+use Rattle.std.specs.Prelude.{ℕ, ◌≡◌, not, IsTrue, List, [], ◌∷◌, ◌++◌, map, Result, Ok, Err, ⊤}
 use Rattle.lrc_meaning.specs.Tree.{Tree}
 use Rattle.lrc_meaning.specs.Grammar.{Grammar}
 use Rattle.lrc_meaning.specs.Editing.{Change, Reply, values, bad_path, wrong_sort, too_deep, full, unopened, shown, forgot, Attempt, asked, EditStep, EditRun}
@@ -12,9 +12,10 @@ use Rattle.lrc_store.specs.Words.{Reads, Gains}
 use Rattle.lrc_bodies.specs.Counting.{IsWhole}
 use Rattle.lrc_functions.specs.declared.functions.Functions.{Functions}
 use Rattle.lrc_session.specs.declared.session.Session.{Session}
+use Rattle.lrc_session.specs.declared.fault.EditFault.{EditFault}
 use Rattle.lrc_session.specs.Sessions.{grammar, sorts, IsOpen}
 use Rattle.lrc_run.specs.declared.reply.Line.{Line}
-use Rattle.lrc_run.specs.Lines.{IsLine, AreLines}
+use Rattle.lrc_run.specs.Lines.{IsLine, AreLines, reply_of, outcome_of}
 use Rattle.lrc_run.specs.Values.{HasCountsOf}
 use Rattle.lrc_run.specs.Counts.{Counts, counts_of, stops_counts, are_all_counted, HasCounts, Tallies, AreCounted}
 use Rattle.lrc_run.specs.Playing.{RunsOut, Holds}
@@ -46,6 +47,11 @@ module _ (functions : Functions) (limit : ℕ) where
     pub tallies : Tallies (grammar functions) (sorts functions) limit s attempts
 
 -- ---- edits
+
+-- the line answers a put or a copy: with the session's values, and the counts of its tree, or with what was refused
+abbrev pub IsAnswer : Grammar → Standing → Session → List Tree → Result (Unit {0}) EditFault → Line → Type 0
+IsAnswer g s session vs (Ok done) line = IsLine g (values vs) line × HasCountsOf s session line
+IsAnswer g s session vs (Err fault) line = IsLine g (reply_of (outcome_of fault)) line
 
 module _ (functions : Functions) (s t : Standing) (limit : ℕ) where
   -- an edit is answered so by the editing rules after these attempts, over a store that is left like this

@@ -1,33 +1,20 @@
 -- What a session answers over a store that nobody else uses.
-use Rattle.std.specs.Prelude.{ℕ, ◌≡◌, Bool, false, IsTrue, List, [], ◌∷◌, Option, Some, None, Contains, length, map, ⊤}
-use Rattle.std.specs.List.{list_all}
-use Rattle.lrc_base.specs.declared.job.Edit.{Edit}
-use Rattle.lrc_base.specs.declared.job.Edit.TheVariants as edit
+use Rattle.std.specs.Prelude.{ℕ, ◌≡◌, IsTrue, List, [], ◌∷◌, Option, Some, None, IfSome, Contains, length, map, ⊤}
 use Rattle.lrc_base.specs.declared.job.Script.{Script}
-use Rattle.lrc_base.specs.declared.grammar.Production.{Production}
-use Rattle.lrc_meaning.specs.Tree.{Tree, tree, fits}
+use Rattle.lrc_meaning.specs.Tree.{Tree, tree}
 use Rattle.lrc_meaning.specs.Editing.{change, Reply, Attempt, ReplyRun}
 use Rattle.lrc_meaning.specs.Text.{unparsed}
 use Rattle.lrc_store.specs.Cells.{CellTree, IsWithin}
 use Rattle.lrc_store.specs.Standing.{Standing, Stands, IsSound}
 use Rattle.lrc_store.specs.declared.cells.Handle.{Handle}
 use Rattle.lrc_code.specs.Forms.{tree_cell}
+use Rattle.lrc_call_meaning.specs.Spelled.{IsSpelled}
 use Rattle.lrc_functions.specs.declared.functions.Functions.{Functions}
 use Rattle.lrc_session.specs.Sessions.{grammar, sorts}
 use Rattle.lrc_run.specs.Rows.{demands, IsLessThanWanted, WantsMore}
 use Rattle.lrc_run.specs.Lines.{AreLines}
 use Rattle.lrc_run.specs.Counts.{counts_of, Tallies, IsCounted, are_all_counted}
 use Rattle.lrc_run.specs.declared.reply.Out.{Out}
-
--- the edit puts a term of the kind beside it
-abbrev pub is_fitting_put : List Production → Edit → Bool
-is_fitting_put prods (edit.Put path kind term) = fits prods (tree term) kind
-is_fitting_put prods (edit.Copy from to) = false
-is_fitting_put prods edit.Show = false
-is_fitting_put prods (edit.Forget place) = false
-
-abbrev pub are_fitting_puts : List Production → List Edit → Bool
-are_fitting_puts prods edits = list_all (is_fitting_put prods) edits
 
 -- nothing was put into the store, and it tells what is in it for good
 pub record IsUnused (s : Standing) : Type 0 where
@@ -62,7 +49,7 @@ module _ (functions : Functions) (limit : ℕ) where
     pub seen : (seen : List CellTree) × (s.seen ≡ Some seen) × ((attempt : Attempt) → Contains attempts attempt → IsTrue attempt.answered → IsWithin (demands (grammar functions) (sorts functions) limit (attempt ∷ [])) seen)
 
   -- A session was played: its lines are those of its replies by the editing rules, where `full` comes only where the rows of the
-  -- store have run out, and its last tree is in the store. Where the store told its memo and was fresh, the lines have the counts
+  -- store have run out, and its last tree is in the store, with names that are spelled. Where the store told its memo and was fresh, the lines have the counts
   -- of bodies and of cells, and the store has those of the whole session, if each attempt was answered with values.
   pub record Plays (before after : Standing) (script : Script) (out : Out) : Type 0 where
     pub replies : List Reply
@@ -72,5 +59,6 @@ module _ (functions : Functions) (limit : ℕ) where
     pub holds : Holds after attempts
     pub lines : AreLines (grammar functions) replies out.lines
     pub is_last : IsLast after last out.last
+    pub spelled : IfSome last IsSpelled
     pub counted : IsUncounted before → IsCounted (grammar functions) (sorts functions) limit (tree script.tree) (map change script.edits) replies (map counts_of out.lines)
     pub tallies : IsUncounted before → IsTrue (are_all_counted replies) → Tallies (grammar functions) (sorts functions) limit after attempts

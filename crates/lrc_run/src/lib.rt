@@ -2,6 +2,7 @@
 #![tactic(auto)]
 
 mod editing;
+mod gate;
 mod laws;
 mod lines;
 mod playing;
@@ -9,6 +10,7 @@ mod reply;
 mod solo;
 mod values;
 
+pub use gate::{Gate, OpenGate, Ticket};
 pub use laws::runs_out_of_rows;
 pub use playing::play;
 pub use reply::{Line, Out, Outcome};

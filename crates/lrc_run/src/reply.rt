@@ -10,12 +10,16 @@ pub enum Outcome {
     TooDeep,
     Full,
     Unopened,
+    Shown,
+    Forgot,
 }
 
 /// What an edit, or the opening, was answered.
 #[derive(Debug, Drop)]
 pub struct Line {
     pub outcome: Outcome,
+    /// The first of its values, where that is a number; else 0.
+    pub first: i64,
     /// The reply's text without its number.
     pub body: Bytes,
     /// How many bodies ran for it, where it has values; else 0.

@@ -1,14 +1,13 @@
 ghost use Rattle.std.specs.Prelude.{◌≡◌, ◌≤◌, ◌^◌, IsTrue, IfOk};
-ghost use Rattle.lrc_meaning.specs.Tree.{tree};
 ghost use Rattle.lrc_order_meaning.specs.Ordered.{HasOrder};
 ghost use Rattle.lrc_grammar.specs.Grammar.{grammar_of};
 ghost use Rattle.lrc_store.specs.Standing.{IsSound};
 ghost use Rattle.lrc_plain.specs.Plain.{state_of, meaning_of, IsNew};
 ghost use Rattle.lrc_bodies.specs.Bodies.{IsMeaningOf};
-ghost use Rattle.lrc_session.specs.Sessions.{IsStartTree};
-ghost use Rattle.lrc_run.specs.Playing.{are_fitting_puts};
+ghost use Rattle.lrc_job.specs.Fitting.{script_fits};
 ghost use Rattle.lrc_run.specs.Solo.{IsSolo};
 
+use crate::gate::{OpenGate, Ticket};
 use crate::playing::play;
 use crate::reply::Out;
 use lrc_base::{Memory, Script};
@@ -35,7 +34,7 @@ fn own_store(
     Ok(store)
 }
 
-/// Plays a session of puts over a store of its own with so many rows, from 1 to 16,777,216, and hands the
+/// Plays a session over a store of its own with so many rows, from 1 to 16,777,216, and hands the
 /// store back.
 ///
 /// # Errors
@@ -50,11 +49,14 @@ pub fn run_solo(
 ) -> Result<(Out, PlainStore<VisitMeaning>), Memory>
     requires some { 1 ≤ rows }
     requires limit { rows ≤ 2 ^ 24 }
-    requires opening { IsStartTree functions.now (tree script.now.tree) }
-    requires puts { IsTrue (are_fitting_puts functions.now.plan.grammar.prods script.now.edits) }
+    requires fits { IsTrue (script_fits functions.now.plan.grammar.prods functions.now.plan.grammar.start script.now) }
     ensures solo { HasOrder (grammar_of functions.now.plan.grammar) functions.now.plan.parts → IfOk result (λ run. IsSolo functions.now depth rows script.now run.0 (state_of run.1)) }
 {
     let mut store = own_store(alloc, functions, rows)?;
-    let out = play(alloc, &mut store, functions, depth, script)?;
+    let ticket = Ticket {
+        gate: &OpenGate,
+        session: 1,
+    };
+    let out = play(alloc, &ticket, &mut store, functions, depth, script)?;
     Ok((out, store))
 }

@@ -9,7 +9,7 @@ ghost use Rattle.lrc_store.specs.Words.{Reads};
 ghost use Rattle.lrc_call_meaning.specs.Forms.{values_cell};
 ghost use Rattle.lrc_call_meaning.specs.Spelled.{IsSpelled};
 ghost use Rattle.lrc_session.specs.Sessions.{grammar, IsOpen};
-ghost use Rattle.lrc_run.specs.Lines.{IsLine};
+ghost use Rattle.lrc_run.specs.Lines.{IsLine, first_number};
 ghost use Rattle.lrc_run.specs.Values.{Begins, Pushes, HasCountsOf};
 
 use crate::reply::{Line, Outcome};
@@ -113,6 +113,22 @@ fn values_text<St: Store>(
     Ok(Bytes::from_vec(text))
 }
 
+/// The first value of a list, where it is a number; else 0.
+fn first_number<St: Store>(store: &mut St, values: Handle) -> i64
+    requires { (vs : List Tree) × Stands (St.state store.old) values.0 (values_cell vs) }
+    ensures number { (vs : List Tree) → Stands (St.state store.old) values.0 (values_cell vs) → result ≡ first_number vs }
+    ensures reads { Reads (St.state store.old) (St.state store.new) }
+    ensures same_meaning { St.meaning store.new ≡ St.meaning store.old }
+{
+    let Some((first, _rest)) = first_value(store, values) else {
+        return 0;
+    };
+    match store.look(first) {
+        Cell::Number(number) => number,
+        Cell::Nil | Cell::Pair(..) => 0,
+    }
+}
+
 /// How many cells the store made.
 fn made<St: Store>(store: &St) -> u32
     ensures count { result ≡ length (St.state store.now).made }
@@ -138,6 +154,7 @@ pub(crate) fn values_line<St: Store>(
     let body = values_text(alloc, store, &functions.plan.grammar, session.values())?;
     Ok(Line {
         outcome: Outcome::Values,
+        first: first_number(store, session.values()),
         body,
         bodies: session.runs(),
         cells: made(store),

@@ -1,5 +1,5 @@
 -- What an answer that is a fault tells of the fault of the call before it.
-use Rattle.std.proofs.Common.{◌≡◌, Result, Ok, Err, IsErrAnd, ap, ◌∙◌}
+use Rattle.std.proofs.Common.{◌≡◌, Result, Ok, Err, IsErrAnd, refl, ap, ◌∙◌}
 use Rattle.std.proofs.lemmas.Result.{err_from_is_err_and}
 use Rattle.lrc_visit.specs.declared.visits.VisitFault.{VisitFault}
 use Rattle.lrc_visit.specs.declared.visits.VisitFault.TheVariants as visit
@@ -14,6 +14,10 @@ is_fault answer fault h = let p = err_from_is_err_and answer h in p.1 ∙ ap Err
 same_fault : {A F : Type 0} (answer : Result A F) (one other : F) → answer ≡ Err one → answer ≡ Err other → one ≡ other
 same_fault (Ok a) one other e f = absurd (cc)
 same_fault (Err x) one other e f = cc
+
+-- an answer that passes on the fault of a refusal is that refusal
+pub same_refusal : {A B F : Type 0} (answer : Result A F) (fault one : F) → IsErrAnd answer (λ e. e ≡ fault) → (let half : Result B F = Err fault in half ≡ Err one) → answer ≡ Err one
+same_refusal {A} {B} {F} answer fault one is e = let half : Result B F = Err fault in is_fault answer fault is ∙ ap Err (same_fault half fault one refl e)
 
 -- which fault of the visit an opening's fault was
 deep_visit : (fault : VisitFault) → start_fault fault ≡ start.TooDeep → fault ≡ visit.TooDeep

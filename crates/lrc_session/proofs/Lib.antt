@@ -2,6 +2,7 @@ pub mod RootLemmas
 pub mod FaultLemmas
 pub mod CallLemmas
 pub mod SessionLemmas
+pub mod HighLemmas
 pub mod PutLemmas
 pub mod DeepLemmas
 pub mod EditLemmas

@@ -4,6 +4,7 @@ ghost use Rattle.lrc_meaning.specs.Tree.{Tree, tree, fits, replaced, tree_height
 ghost use Rattle.lrc_store.specs.Standing.{Stands};
 ghost use Rattle.lrc_store.specs.Words.{Adds, Gains, LacksOne, Reads};
 ghost use Rattle.lrc_code.specs.Forms.{tree_cell};
+ghost use Rattle.lrc_places.specs.Replacing.{IsPlace};
 ghost use Rattle.lrc_machine.specs.Counts.{Counted};
 ghost use Rattle.lrc_bodies.specs.Bodies.{IsMeaningOf};
 ghost use Rattle.lrc_bodies.specs.Counting.{IsWhole};
@@ -11,6 +12,7 @@ ghost use Rattle.lrc_session.specs.Sessions.{grammar, sorts, IsStartTree, IsOpen
 ghost use Rattle.lrc_session.specs.Lending.{LendsFrames};
 ghost use Rattle.lrc_session.specs.Proposals.{IsRootAsked, IsRootGiven, IsProposal, ProposesPut};
 ghost use Rattle.lrc_session.specs.declared.fault.StartFault.TheVariants as start;
+ghost use Rattle.lrc_session.specs.declared.fault.EditFault.TheVariants as edit;
 ghost use Rattle.lrc_functions.specs.declared.functions.Functions.{Functions};
 
 use crate::fault::{EditFault, StartFault};
@@ -47,7 +49,8 @@ impl Session {
     /// # Errors
     ///
     /// TooDeep exactly where the tree has more nodes on its longest path than the depth: it has no
-    /// attributes within the depth then, and nothing is put; Memory; and Full only where all rows are used and a cell of what the tree demands is in none.
+    /// attributes within the depth then, and nothing is put; Memory; and Full only where all rows
+    /// are used and a cell of what the tree demands is in none.
     pub fn propose<St: Store<M = VisitMeaning>>(
         alloc: Global,
         store: &mut St,
@@ -158,6 +161,7 @@ impl Session {
         requires session { (t : Tree) × (vs : List Tree) × IsOpen functions.now (St.state store.old) self.old t vs }
         requires term { IsTrue (fits functions.now.plan.grammar.prods (tree put.now.term.now) put.now.kind) }
         ensures proposes { (t : Tree) (vs : List Tree) → IsOpen functions.now (St.state store.old) self.old t vs → ProposesPut functions.now (St.state store.old) (St.state store.new) t vs self.old self.new put.now.path.now.steps (tree put.now.term.now) put.now.kind result }
+        ensures high { (t : Tree) (vs : List Tree) → IsOpen functions.now (St.state store.old) self.old t vs → IsPlace functions.now.plan.grammar.prods t put.now.path.now.steps put.now.kind → self.old.depth < tree_height (tree put.now.term.now) → (result ≡ Err edit.TooDeep) × Reads (St.state store.old) (St.state store.new) }
         ensures missed { self.new.missed ≡ (St.state store.old).missed }
         ensures same_meaning { St.meaning store.new ≡ St.meaning store.old }
     {
@@ -204,9 +208,10 @@ impl Session {
     /// # Errors
     ///
     /// BadPath exactly where the path names no place; WrongSort exactly where what stands there is of
-    /// another kind; TooDeep only where the changed tree has no attributes within the depth; and Full
-    /// only where all rows are used and a cell of what the changed tree demands is in none. The
-    /// session's tree and its attributes are then as they were.
+    /// another kind; else TooDeep only where the changed tree has no attributes within the depth,
+    /// and before anything is put where the part has more nodes on its longest path than the depth;
+    /// and Full only where all rows are used and a cell of what the changed tree demands is in none.
+    /// The session's tree and its attributes are then as they were.
     pub fn put<St: Store<M = VisitMeaning>>(
         &mut self,
         store: &mut St,
@@ -217,6 +222,7 @@ impl Session {
         requires session { (t : Tree) × (vs : List Tree) × IsOpen functions.now (St.state store.old) self.old t vs }
         requires term { IsTrue (fits functions.now.plan.grammar.prods (tree put.now.term.now) put.now.kind) }
         ensures edits { (t : Tree) (vs : List Tree) → IsOpen functions.now (St.state store.old) self.old t vs → Edits functions.now (St.state store.old) (St.state store.new) t vs self.old self.new put.now.path.now.steps (tree put.now.term.now) put.now.kind result }
+        ensures high { (t : Tree) (vs : List Tree) → IsOpen functions.now (St.state store.old) self.old t vs → IsPlace functions.now.plan.grammar.prods t put.now.path.now.steps put.now.kind → self.old.depth < tree_height (tree put.now.term.now) → (result ≡ Err edit.TooDeep) × Reads (St.state store.old) (St.state store.new) }
         ensures runs { IfOk result (λ _. self.new.runs ≡ (St.state store.new).missed - (St.state store.old).missed) }
         ensures runs_kept { OnErr result (self.new.runs ≡ self.old.runs) }
         ensures whole { IsWhole (grammar functions.now) (sorts functions.now) (St.state store.old).memo → IsWhole (grammar functions.now) (sorts functions.now) (St.state store.new).memo }

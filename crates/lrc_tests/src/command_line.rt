@@ -1,7 +1,7 @@
-//! Words that ask for nothing, and the command that is not built.
+//! Words that ask for nothing, and generated jobs.
 
 use crate::jobs::SMALL_JOB;
-use crate::top_call::{USAGE, assert_answer, refused};
+use crate::top_call::{USAGE, assert_answer, done, refused};
 use std::test::Fail;
 
 #[test]
@@ -20,8 +20,18 @@ fn words_that_are_not_taken(rt: HostRuntime) -> Result<(), Fail> {
     Ok(())
 }
 
+/// The tree is `Root(Add(Num(12), Num(61)))`, with the value 73; of the four puts one is of another kind, one
+/// names no place, and two give 15 and 2. Nothing is read.
 #[test]
-fn generated_jobs_are_not_built(rt: HostRuntime) -> Result<(), Fail> {
-    let not_built = refused(5, b"lrc: job: not built\n");
-    assert_answer(&rt, rt.alloc(), &["gen"], SMALL_JOB, not_built)
+fn a_generated_job_is_summed_up(rt: HostRuntime) -> Result<(), Fail> {
+    let words = ["gen", "--seed", "7", "--nodes", "3"];
+    let summary = done(b"replies 5\nrefused 2\nsum 90\n");
+    assert_answer(&rt, rt.alloc(), words.as_slice(), b"no job", summary)
+}
+
+#[test]
+fn a_generated_job_has_too_many_rows(rt: HostRuntime) -> Result<(), Fail> {
+    let words = ["gen", "--rows", "16777216", "--sessions", "2"];
+    let fault = refused(5, b"lrc: job: too many rows\n");
+    assert_answer(&rt, rt.alloc(), words.as_slice(), SMALL_JOB, fault)
 }

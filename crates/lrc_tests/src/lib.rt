@@ -33,8 +33,6 @@ mod small_text;
 #[cfg(test)]
 mod solo;
 #[cfg(test)]
-mod solo_store;
-#[cfg(test)]
 mod streams;
 #[cfg(test)]
 mod top_call;

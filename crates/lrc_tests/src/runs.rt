@@ -1,5 +1,5 @@
-//! `run`: attributes of trees as they are edited, how deep a tree may be, how many rows there are, and what
-//! is not run.
+//! `run`: attributes of trees as they are edited, their texts and copies, how deep a tree may be, how many rows
+//! there are, and several sessions.
 
 use crate::jobs::{
     CROSSING, DECLARATIONS, ENDLESS, LETS, NUMERALS, PAIRING, SUMS, TREES, copies_of, joined,
@@ -204,54 +204,157 @@ fn an_edit_runs_out_of_rows(rt: HostRuntime) -> Result<(), Fail> {
     Ok(())
 }
 
-/// A grammar that is not ordered is told behind all that is not built.
 #[test]
 fn grammars_that_are_not_ordered_are_not_run(rt: HostRuntime) -> Result<(), Fail> {
-    let crossing = b"session on A(L()) { }".as_slice();
-    let shown = b"session on A(L()) { show; }";
     let runs = [
         (
             CROSSING,
-            crossing,
-            6,
+            b"session on A(L()) { show; }".as_slice(),
             b"lrc: not ordered: induced A x.i1\n".as_slice(),
         ),
         (
             PAIRING,
             b"session on T(L(), L()) { }",
-            6,
             b"lrc: not ordered: extended T x.b\n",
         ),
-        (CROSSING, shown, 5, b"lrc: job: not built\n"),
     ];
-    for (grammar, session, status, line) in runs {
+    for (grammar, session, line) in runs {
         let text = joined(rt.alloc(), &[grammar, session])?;
-        let end = refused(status, line);
+        let end = refused(6, line);
         assert_answer(&rt, rt.alloc(), &["run"], text.as_slice(), end)?;
     }
     Ok(())
 }
 
+/// The text of a tree comes from the patterns of its productions.
 #[test]
-fn roots_with_a_tree_are_not_built(rt: HostRuntime) -> Result<(), Fail> {
-    let text = joined(rt.alloc(), &[TREES, b"session on L() { }"])?;
-    let not_built = refused(5, b"lrc: job: not built\n");
-    assert_answer(&rt, rt.alloc(), &["run"], text.as_slice(), not_built)
+fn trees_are_shown(rt: HostRuntime) -> Result<(), Fail> {
+    let session = b"session on Root(Let('x, Num(3), Add(Var('x), Num(4)))) {
+  show; put /0/1 Num(10); show; put /7 Num(1); put /0/2 3; forget 0;
+}";
+    let text = joined(rt.alloc(), &[LETS, session])?;
+    let replies = b"session 1
+0 val=7
+1 shown let x = 3 in (x + 4)
+2 val=14
+3 shown let x = 10 in (x + 4)
+4 badpath
+5 wrongsort
+6 forgot
+final 1 1
+";
+    assert_answer(&rt, rt.alloc(), &["run"], text.as_slice(), done(replies))
+}
+
+/// A part is copied to another place of the same kind, or the copy is refused and the tree stays.
+#[test]
+fn parts_are_copied(rt: HostRuntime) -> Result<(), Fail> {
+    let session = b"session on P(S(S(Z())), Z()) {
+  copy /0 /1; copy /0 /1/0; copy /2 /0; copy /0 /2; copy /1/0 /0; show;
+}";
+    let text = joined(rt.alloc(), &[NUMERALS, session])?;
+    let replies = b"session 1
+0 h=2
+1 h=4
+2 toodeep
+3 badpath
+4 badpath
+5 h=3
+6 shown P(S(Z()), S(S(Z())))
+final 1 1
+";
+    let words = ["run", "--depth", "4"];
+    assert_answer(
+        &rt,
+        rt.alloc(),
+        words.as_slice(),
+        text.as_slice(),
+        done(replies),
+    )
+}
+
+/// A child that is a number is of another kind than one that is a tree.
+#[test]
+fn parts_of_another_kind_are_not_copied(rt: HostRuntime) -> Result<(), Fail> {
+    let session = b"session on Add(Num(1), Num(2)) { copy /0 /1/0; copy /1/0 /0/0; show; }";
+    let text = joined(rt.alloc(), &[SUMS, session])?;
+    let replies = b"session 1
+0 val=3
+1 wrongsort
+2 val=4
+3 shown Add(Num(2), Num(2))
+final 1 1
+";
+    assert_answer(&rt, rt.alloc(), &["run"], text.as_slice(), done(replies))
+}
+
+/// The value of an attribute may be a tree.
+#[test]
+fn values_may_be_trees(rt: HostRuntime) -> Result<(), Fail> {
+    let text = joined(rt.alloc(), &[TREES, b"session on L() { show; }"])?;
+    let replies = done(b"session 1\n0 t=L()\n1 shown L()\nfinal 1 1\n");
+    assert_answer(&rt, rt.alloc(), &["run"], text.as_slice(), replies)
+}
+
+/// The final of a session names the first whose last tree is the same; a session that did not open has none.
+#[test]
+fn finals_name_the_first_equal_tree(rt: HostRuntime) -> Result<(), Fail> {
+    let sessions = b"session on Add(Num(1), Num(2)) { put /0 Num(5); }
+session on Add(Num(5), Num(2)) { }
+session on Add(Add(Add(Num(1), Num(1)), Num(1)), Num(1)) { show; }
+session on Add(Num(1), Num(2)) { put /0 Num(6); }
+session on Num(7) { put / Add(Num(1), Num(2)); put /0 Num(6); }
+";
+    let text = joined(rt.alloc(), &[SUMS, sessions])?;
+    let replies = b"session 1
+0 val=3
+1 val=7
+session 2
+0 val=7
+session 3
+0 toodeep
+1 unopened
+session 4
+0 val=3
+1 val=8
+session 5
+0 val=7
+1 val=3
+2 val=8
+final 1 1
+final 2 1
+final 3 -
+final 4 4
+final 5 4
+";
+    let words = ["run", "--depth", "3", "--memo", "1"];
+    assert_answer(
+        &rt,
+        rt.alloc(),
+        words.as_slice(),
+        text.as_slice(),
+        done(replies),
+    )
 }
 
 #[test]
-fn runs_that_are_not_built(rt: HostRuntime) -> Result<(), Fail> {
-    let sessions = [
-        b"".as_slice(),
-        b"session on Num(1) { } session on Num(1) { }",
-        b"session on Num(1) { copy / /; }",
-        b"session on Num(1) { show; }",
-        b"session on Num(1) { forget 7; }",
-    ];
-    for session in sessions {
-        let text = joined(rt.alloc(), &[SUMS, session])?;
-        let not_built = refused(5, b"lrc: job: not built\n");
-        assert_answer(&rt, rt.alloc(), &["run"], text.as_slice(), not_built)?;
-    }
-    Ok(())
+fn no_session_prints_nothing(rt: HostRuntime) -> Result<(), Fail> {
+    assert_answer(&rt, rt.alloc(), &["run"], SUMS, done(b""))
+}
+
+/// Each session has rows of its own: what one has used up is no matter to another.
+#[test]
+fn each_session_has_its_rows(rt: HostRuntime) -> Result<(), Fail> {
+    let sessions = b"session on Add(Num(1), Num(2)) { } session on Big() { }";
+    let text = joined(rt.alloc(), &[SUMS, sessions])?;
+    let replies =
+        b"session 1\n0 full\nsession 2\n0 val=-9223372036854775808\nfinal 1 -\nfinal 2 2\n";
+    let words = ["run", "--rows", "8"];
+    assert_answer(
+        &rt,
+        rt.alloc(),
+        words.as_slice(),
+        text.as_slice(),
+        done(replies),
+    )
 }

@@ -95,8 +95,33 @@ fn refused_openings_have_no_counts(rt: HostRuntime) -> Result<(), Fail> {
     Ok(())
 }
 
-/// Another number of sessions than one is told behind too many rows, and before what is not built and a
-/// grammar that is not ordered.
+/// A copy back to the first tree runs no body and makes no cell.
+#[test]
+fn a_copy_is_counted(rt: HostRuntime) -> Result<(), Fail> {
+    let text = twofold(
+        rt.alloc(),
+        b"{ put /1 Num(3); copy /0 /1; show; forget 3; }",
+    )?;
+    let replies = b"session 1
+0 val=6 | bodies=4 cells=29
+1 val=6 | bodies=2 cells=36
+2 val=6 | bodies=0 cells=36
+3 shown Add(Add(Num(1), Num(2)), Add(Num(1), Num(2)))
+4 forgot
+final 1 1
+";
+    let words = ["solo", "--rows", "36"];
+    assert_answer(
+        &rt,
+        rt.alloc(),
+        words.as_slice(),
+        text.as_slice(),
+        done(replies),
+    )
+}
+
+/// Another number of sessions than one is told behind too many rows, and before a grammar that is not
+/// ordered.
 #[test]
 fn solo_takes_one_session(rt: HostRuntime) -> Result<(), Fail> {
     let two = b"session on A(L()) { } session on A(L()) { show; }".as_slice();
@@ -105,12 +130,6 @@ fn solo_takes_one_session(rt: HostRuntime) -> Result<(), Fail> {
         (two, "262144", 5, other_number),
         (two, "16777216", 5, b"lrc: job: too many rows\n"),
         (b"", "16777216", 5, other_number),
-        (
-            b"session on A(L()) { show; }",
-            "16777216",
-            5,
-            b"lrc: job: not built\n",
-        ),
         (
             b"session on A(L()) { }",
             "16777216",

@@ -1,41 +1,44 @@
-use Rattle.std.proofs.Common.{◌∙◌, ℕ, ◌*◌, ◌<◌, ◌≤◌, map, sym, subst, ap}
-use Rattle.std.specs.Prelude.{MatchBool}
+use Rattle.std.proofs.Common.{map, sym, ◌∙◌, arith}
 use Rattle.std.proofs.lemmas.List.{length-map}
 use Rattle.lrc_grammar.specs.Grammar.{grammar_of}
 use Rattle.lrc_job.specs.Job.{session}
-use Rattle.lrc_cli.specs.Causes.{row_limit, too_many_rows, not_one_session, no_run, IsUnordered, IsCause}
-use Rattle.lrc_cli.proofs.TopLemmas.{err_more, unordered_to_run_cause}
-use Rattle.lrc_cli.proofs.RunLemmas.{not_built, few_rows_of, others, takes, if_ok}
+use Rattle.lrc_failures.specs.declared.failure.Failure.TheVariants as f
+use Rattle.lrc_cli.specs.Causes.{IsCause, of_job, reads_no_memory}
+use Rattle.lrc_cli.proofs.TopLemmas.{if_err}
+use Rattle.lrc_cli.proofs.RunLemmas.{as_many, run_is}
+use Rattle.lrc_cli.proofs.TextLemmas.{run_text-all_sessions}
 use Rattle.lrc_cli.proofs.run.run_text.Goals as goal
 
-pub returns-then-are_rows_too_many-clause-cause : goal.returns-then-are_rows_too_many-clause-cause
-returns-then-are_rows_too_many-clause-cause c =
-    let sessions = c.in_ok-accepted.accepted.sessions in
-    too_many_rows (grammar_of c.in_ok-accepted.accepted.grammar) (map session sessions) c.in_ok-accepted.ensures.accepted c.requires.runs
-    (subst (λ (n : ℕ). row_limit < c.args.command.now.rows * n) (c.len-sessions.ensures ∙ sym (length-map sessions session)) (c.are_rows_too_many.ensures.0 c.if-are_rows_too_many.true))
+pub returns-in_err-accepted-clause-cause : goal.returns-in_err-accepted-clause-cause
+returns-in_err-accepted-clause-cause g c =
+    let failure = c.in_err-accepted.field-0.0 in
+    if_err c.from_residual-in_err-accepted.result (IsCause c.args.command.now c.args.bytes.now) failure c.from_residual-in_err-accepted.ensures.1
+    (of_job c.in_ok-job.job failure c.in_ok-job.ensures.job c.in_err-accepted.ensures.cause)
 
-pub returns-then-takes_others-clause-cause : goal.returns-then-takes_others-clause-cause
-returns-then-takes_others-clause-cause c =
+pub outs_of-requires-clause-few : goal.outs_of-requires-clause-few
+outs_of-requires-clause-few g c =
     let sessions = c.in_ok-accepted.accepted.sessions in
-    let found = others c.args.command.now.verb c.takes_others.result sessions c.len-sessions.result c.len-sessions.ensures c.takes_others.ensures c.if-takes_others.true in
-    not_one_session (grammar_of c.in_ok-accepted.accepted.grammar) (map session sessions) c.in_ok-accepted.ensures.accepted found.0
-    (few_rows_of c.are_rows_too_many.result c.args.command.now.rows sessions c.len-sessions.result c.len-sessions.ensures c.are_rows_too_many.ensures c.if-are_rows_too_many.false)
-    found.1
+    let many = as_many c.in_ok-job.job (grammar_of c.in_ok-accepted.accepted.grammar) (map session sessions) c.in_ok-accepted.ensures.accepted in
+    let same = length-map sessions session in
+    let few = c.in_ok-job.ensures.counts.sessions in omega arith
 
-pub returns-in_default-clause-cause : goal.returns-in_default-clause-cause
-returns-in_default-clause-cause c =
-    let sessions = c.in_ok-accepted.accepted.sessions in
-    no_run (grammar_of c.in_ok-accepted.accepted.grammar) (map session sessions) c.in_ok-accepted.ensures.accepted c.requires.runs
-    (few_rows_of c.are_rows_too_many.result c.args.command.now.rows sessions c.len-sessions.result c.len-sessions.ensures c.are_rows_too_many.ensures c.if-are_rows_too_many.false)
-    (takes c.args.command.now.verb c.takes_others.result sessions c.len-sessions.result c.len-sessions.ensures c.takes_others.ensures c.if-takes_others.false)
-    (not_built c.one_job.ensures c.args.bytes.now (grammar_of c.in_ok-accepted.accepted.grammar) sessions c.in_ok-accepted.ensures.accepted c.in_default.ensures)
+pub returns-in_err-outs-clause-cause : goal.returns-in_err-outs-clause-cause
+returns-in_err-outs-clause-cause g c = if_err c.from_residual-in_err-outs.result (IsCause c.args.command.now c.args.bytes.now) f.Memory c.from_residual-in_err-outs.ensures.1 reads_no_memory
 
-pub returns-clause-cause : goal.returns-clause-cause
-returns-clause-cause c =
-    let g = grammar_of c.in_ok-accepted.accepted.grammar in
-    let sessions = c.in_ok-accepted.accepted.sessions in
-    err_more c.session_run.result (IsUnordered g) (IsCause c.args.command.now c.args.bytes.now) c.session_run.ensures.fault
-    (λ failure is. unordered_to_run_cause c.args.command.now c.args.bytes.now g sessions c.in-Some.script.now failure c.requires.runs c.requires.within.rows.1 c.in_ok-accepted.ensures.accepted c.in-Some.ensures is)
+pub returns-in_err-sessions_text-clause-cause : goal.returns-in_err-sessions_text-clause-cause
+returns-in_err-sessions_text-clause-cause g c =
+    if_err c.from_residual-in_err-sessions_text.result (IsCause c.args.command.now c.args.bytes.now) f.Memory c.from_residual-in_err-sessions_text.ensures.1 reads_no_memory
 
 pub returns-clause-output : goal.returns-clause-output
-returns-clause-output c = if_ok c.session_run.result _ _ c.session_run.ensures.output (λ text run. run c.args.bytes.now c.in_ok-accepted.ensures.accepted)
+returns-clause-output h c =
+    let g = grammar_of c.in_ok-accepted.accepted.grammar in
+    let outs = c.in_ok-outs.outs in
+    let found = c.in_ok-outs.ensures in
+    record {
+      job = c.in_ok-job.job;
+      denotes = c.in_ok-job.ensures.job;
+      run =
+          run_is c.in_ok-job.job g (map session c.in_ok-accepted.accepted.sessions) c.in_ok-accepted.plan.parts c.args.command.now.rows c.args.command.now.depth outs c.in_ok-accepted.ensures.accepted
+          c.in_ok-accepted.ensures.parts found;
+      prints = c.in_ok-sessions_text.ensures ∙ sym (run_text-all_sessions g found.replies found.lasts outs found.lines found.finals);
+    }

@@ -7,7 +7,7 @@ use Rattle.lrc_session.specs.Sessions.{grammar}
 use Rattle.lrc_run.specs.Lines.{AreLines}
 use Rattle.lrc_run.specs.Editing.{IsPlayed}
 use Rattle.lrc_run.proofs.LineLemmas.{both_ok}
-use Rattle.lrc_run.proofs.SessionLemmas.{IsOpening, played, too_deep_played, full_played}
+use Rattle.lrc_run.proofs.SessionLemmas.{IsOpening, script_starts, played, too_deep_played, full_played}
 use Rattle.lrc_run.proofs.playing.play.Goals as goal
 
 pub returns-in_ok-push_lines-in-Ok-clause-plays : goal.returns-in_ok-push_lines-in-Ok-clause-plays
@@ -38,7 +38,7 @@ returns-in-Err-TooDeep-clause-plays g c order =
     let script = c.args.script.now in
     both_ok c.unopened.result _ _ _
     (λ out lines last.
-    too_deep_played f (g.St.Store.state c.args.store.now) (g.St.Store.state c.start.new.store) c.args.depth script c.requires.unused c.start.ensures.gains c.requires.opening out last
+    too_deep_played f (g.St.Store.state c.args.store.now) (g.St.Store.state c.start.new.store) c.args.depth script c.requires.unused c.start.ensures.gains (script_starts f script c.requires.fits) out last
     (c.in-Err-TooDeep.ensures.too_deep (ap Err c.in-Err-TooDeep.field-0-is))
     (subst (λ (edits : List Edit). AreLines (grammar f) (too_deep ∷ all_unopened (map change edits)) out.lines) c.as_slice-edits.ensures lines))
     (c.unopened.ensures.lines (grammar f)) c.unopened.ensures.last
@@ -49,7 +49,7 @@ returns-in-Err-Full-clause-plays g c order =
     let script = c.args.script.now in
     both_ok c.unopened-in-Err-Full.result _ _ _
     (λ out lines last.
-    full_played f (g.St.Store.state c.args.store.now) (g.St.Store.state c.start.new.store) c.args.depth script c.requires.unused c.start.ensures.gains c.requires.opening out last
+    full_played f (g.St.Store.state c.args.store.now) (g.St.Store.state c.start.new.store) c.args.depth script c.requires.unused c.start.ensures.gains (script_starts f script c.requires.fits) out last
     (c.in-Err-Full.ensures.full (ap Err c.in-Err-Full.field-0-is))
     (subst (λ (edits : List Edit). AreLines (grammar f) (full ∷ all_unopened (map change edits)) out.lines) c.as_slice-edits.ensures lines))
     (c.unopened-in-Err-Full.ensures.lines (grammar f)) c.unopened-in-Err-Full.ensures.last

@@ -28,8 +28,8 @@ edits-preserved g c =
     record {
       edited = λ before vs opened.
           let so_far = c.edits.invariant.edited before vs opened in
-          one_edit_more f s t u c.args.session.now.depth c.edits.session.depth before c.args.edits.now c.edits.edit-index c.edit-item.result c.edits.session c.edited.new.session c.args.lines.now
-          c.push.new.self c.edits.lines c.in_ok-edited.field-0 c.edits-test.true c.edit-item.is c.in_ok-push.ensures.ok c.edits.invariant.depth so_far c.edited.ensures.gains
+          one_edit_more f s t u c.args.session.now.depth c.edits.session.depth before c.args.edits.now c.edits.before c.index-edits-before.result c.edits.session c.edited.new.session c.args.lines.now
+          c.push.new.self c.edits.lines c.in_ok-edited.field-0 c.edits-test.true c.index-edits-before.is c.in_ok-push.ensures.ok c.edits.invariant.depth so_far c.edited.ensures.gains
           (c.in_ok-edited.ensures.edited so_far.after so_far.own so_far.is_open);
       depth = c.edited.ensures.depth ∙ c.edits.invariant.depth;
       gains = some_then s t u c.edits.invariant.gains c.edited.ensures.gains;

@@ -2,7 +2,7 @@ use Rattle.std.proofs.Common.{List, map, subst}
 use Rattle.std.proofs.lemmas.Result.{IfOk-weaker}
 use Rattle.lrc_meaning.specs.Editing.{change}
 use Rattle.lrc_run.specs.declared.reply.Line.{Line}
-use Rattle.lrc_run.specs.Editing.{AreEdited}
+use Rattle.lrc_run.specs.Editing.{AreEdited, IsPlayed}
 use Rattle.lrc_run.proofs.GrowLemmas.{some_read, some_then}
 use Rattle.lrc_run.proofs.EditLemmas.{open_later}
 use Rattle.lrc_run.proofs.playing.push_lines.Goals as goal
@@ -35,7 +35,8 @@ returns-clause-played g c before own opened =
     let u = g.St.Store.state c.push_edited.new.store in
     let session = c.args.session.now in
     let line = c.in_ok-values_line.field-0 in
-    IfOk-weaker c.push_edited.result _ _
+    IfOk-weaker c.push_edited.result (λ _. AreEdited f v u session.depth before (map change c.args.edits.now) c.push_edited.new.session c.push.new.self c.push_edited.new.lines)
+    (λ _. IsPlayed f s u session c.push_edited.new.session before own (map change c.args.edits.now) c.args.lines.now c.push_edited.new.lines)
     (λ _ edited. record {
       middle = v;
       reads = c.values_line.ensures.reads;

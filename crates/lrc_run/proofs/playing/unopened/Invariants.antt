@@ -6,4 +6,4 @@ use Rattle.lrc_run.proofs.playing.unopened.Given as goal
 
 -- the lines so far are those of the opening and of the edits so far
 abbrev pub invariant-edits : goal.invariant-edits
-invariant-edits l = (g : Grammar) → AreLines g (reply_of l.fn.outcome ∷ all_unopened (map change (take l._edit-index l.edits))) l.lines
+invariant-edits o l = (g : Grammar) → AreLines g (reply_of l.fn.outcome ∷ all_unopened (map change (take l.before l.edits))) l.lines

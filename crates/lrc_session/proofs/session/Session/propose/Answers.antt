@@ -9,6 +9,7 @@ use Rattle.lrc_code.specs.Forms.{tree_cell}
 use Rattle.lrc_call_meaning.specs.Forms.{call_form}
 use Rattle.lrc_places.proofs.PlaceLemmas.{productions-below, children-few}
 use Rattle.lrc_session.specs.Sessions.{grammar, sorts, demands}
+use Rattle.lrc_session.proofs.HighLemmas.{no_higher}
 use Rattle.lrc_session.proofs.RootLemmas.{few_productions, call_demanded, tree_demanded}
 use Rattle.lrc_session.proofs.session.Session.propose.Goals as goal
 
@@ -20,32 +21,16 @@ returns-then-height-depth-clause-too_deep g c e =
     omega (arith, same, is, test)
 
 pub returns-in_err-frames-clause-high : goal.returns-in_err-frames-clause-high
-returns-in_err-frames-clause-high g c high =
-    let same = height_agrees c.args.term.now in
-    let is = c.height.ensures in
-    let test = c.if-height-depth.false in
-    absurd (omega (arith, same, is, test, high))
+returns-in_err-frames-clause-high g c high = absurd (no_higher c.args.term.now c.height.result c.args.depth c.height.ensures c.if-height-depth.false high)
 
 pub returns-in_err-root-clause-high : goal.returns-in_err-root-clause-high
-returns-in_err-root-clause-high g c high =
-    let same = height_agrees c.args.term.now in
-    let is = c.height.ensures in
-    let test = c.if-height-depth.false in
-    absurd (omega (arith, same, is, test, high))
+returns-in_err-root-clause-high g c high = absurd (no_higher c.args.term.now c.height.result c.args.depth c.height.ensures c.if-height-depth.false high)
 
 pub returns-in_err-call-clause-high : goal.returns-in_err-call-clause-high
-returns-in_err-call-clause-high g c high =
-    let same = height_agrees c.args.term.now in
-    let is = c.height.ensures in
-    let test = c.if-height-depth.false in
-    absurd (omega (arith, same, is, test, high))
+returns-in_err-call-clause-high g c high = absurd (no_higher c.args.term.now c.height.result c.args.depth c.height.ensures c.if-height-depth.false high)
 
 pub returns-clause-high : goal.returns-clause-high
-returns-clause-high g c high =
-    let same = height_agrees c.args.term.now in
-    let is = c.height.ensures in
-    let test = c.if-height-depth.false in
-    absurd (omega (arith, same, is, test, high))
+returns-clause-high g c high = absurd (no_higher c.args.term.now c.height.result c.args.depth c.height.ensures c.if-height-depth.false high)
 
 pub put_term-requires-clause-few : goal.put_term-requires-clause-few
 put_term-requires-clause-few g c =

@@ -1,8 +1,10 @@
 use Rattle.std.proofs.Common.{refl}
 use Rattle.lrc_meaning.specs.Tree.{tree}
 use Rattle.lrc_visit_meaning.specs.Values.{root_call}
+use Rattle.lrc_session.specs.declared.fault.EditFault.TheVariants as edit
 use Rattle.lrc_session.proofs.SessionLemmas.{visited_frames}
 use Rattle.lrc_session.proofs.EditLemmas.{changed, refused, asked, unvisited, asked_on, edited}
+use Rattle.lrc_session.proofs.FaultLemmas.{same_refusal}
 use Rattle.lrc_session.proofs.session.Session.put.Goals as goal
 
 pub returns-in_err-call-clause-edits : goal.returns-in_err-call-clause-edits
@@ -68,3 +70,18 @@ returns-clause-edits g c whole vs has =
     let later = asked_on functions s t whole vs before mid steps new put.kind c.in_ok-call.call first u mid gains refl refl refl first.is_open.frames in
     edited functions s t whole vs before mid steps new put.kind c.in_ok-call.call first u mid gains v _ c.settle.new.self c.settle.ensures.reads c.settle.ensures.depth
     (c.settle.ensures.settles attempt later (visited.gives (root_call attempt) there.asked))
+
+pub returns-in_err-call-clause-high : goal.returns-in_err-call-clause-high
+returns-in_err-call-clause-high g c whole vs has there high =
+    let half = c.in_err-call.ensures.high whole vs has there high in
+    (same_refusal c.from_residual.result c.in_err-call.field-0.0 edit.TooDeep c.from_residual.ensures.1 half.0, half.1)
+
+pub returns-in_err-given-clause-high : goal.returns-in_err-given-clause-high
+returns-in_err-given-clause-high g c whole vs has there high =
+    let refused = (c.in_ok-call.ensures.high whole vs has there high).0 in
+    absurd (cc)
+
+pub returns-clause-high : goal.returns-clause-high
+returns-clause-high g c whole vs has there high =
+    let refused = (c.in_ok-call.ensures.high whole vs has there high).0 in
+    absurd (cc)

@@ -1,0 +1,4 @@
+-- Lemmas of the sessions that share a table.
+mod FinalLemmas
+mod PlayedLemmas
+mod OpeningLemmas
