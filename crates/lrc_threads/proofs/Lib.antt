@@ -2,3 +2,4 @@
 mod FinalLemmas
 mod PlayedLemmas
 mod OpeningLemmas
+mod CrossingLemmas

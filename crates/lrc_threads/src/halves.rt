@@ -1,5 +1,6 @@
-//! Sessions in a row, by halves.
+//! Sessions in a row, by halves, each half on a thread of its own.
 ghost use Rattle.std.specs.Prelude.{◌+◌, ◌*◌, ◌≤◌, ◌^◌, length, IfOk};
+ghost use Rattle.std.specs.Thread.{IsSync};
 ghost use Rattle.lrc_bodies.specs.Bodies.{IsMeaningOf};
 ghost use Rattle.lrc_table.specs.Passes.{IsOf};
 ghost use Rattle.lrc_table.specs.Standings.{standing};
@@ -13,6 +14,7 @@ use lrc_functions::Functions;
 use lrc_run::Gate;
 use lrc_table::{Pass, Table};
 use std::alloc::Global;
+use std::thread::{Threads, join};
 
 /// A pass with rows for the last of the sessions that a pass has rows for; that one keeps the rows for
 /// the others.
@@ -35,7 +37,8 @@ fn split_off(
 /// Plays at most 64 sessions, the first of which has this number, by a pass with rows for each of them,
 /// which comes back and knows their last trees.
 #[cycle(session_runs)]
-pub(crate) fn session_runs<G: Gate>(
+pub(crate) fn session_runs<R: Threads + Sync, G: Gate + Sync>(
+    rt: &R,
     alloc: Global,
     table: &Table<VisitMeaning>,
     functions: &Functions,
@@ -45,6 +48,7 @@ pub(crate) fn session_runs<G: Gate>(
     scripts: &[Script],
     first: u32,
 ) -> (Result<Played, Memory>, Pass<VisitMeaning>)
+    requires sync { IsSync R.row × IsSync G.row }
     requires meaning { IsMeaningOf functions.now table.now.meaning }
     requires ready { IsReady sizes.rows table.now pass (length scripts.now) }
     requires fits { AreFitting functions.now scripts.now }
@@ -70,8 +74,33 @@ pub(crate) fn session_runs<G: Gate>(
     let (left, right) = scripts.split_at(scripts.len() / 2);
     let other = split_off(table, sizes.rows, &mut pass, left.len(), right.len());
     let next = first + left.len() as u32;
-    let (one, mut pass) = session_runs(alloc, table, functions, sizes, gate, pass, left, first);
-    let (two, other) = session_runs(alloc, table, functions, sizes, gate, other, right, next);
+    let ((one, mut pass), (two, other)) = join(
+        rt,
+        move || -> (Result<Played, Memory>, Pass<VisitMeaning>)
+            requires sync { IsSync R.row × IsSync G.row }
+            requires meaning { IsMeaningOf functions.now table.now.meaning }
+            requires ready { IsReady sizes.rows table.now pass (length left.now) }
+            requires fits { AreFitting functions.now left.now }
+            requires rows { sizes.rows * length left.now ≤ 2 ^ 24 }
+            requires some { 1 ≤ length left.now }
+            requires some_row { 1 ≤ sizes.rows }
+            requires numbers { first + length left.now ≤ 65 }
+            ensures is_of { IsOf result.1 table.entry.now }
+            ensures answers { IfOk result.0 (Answers functions.entry.now sizes (standing result.1.view) left.entry.now) }
+        { session_runs(rt, alloc, table, functions, sizes, gate, pass, left, first) },
+        move || -> (Result<Played, Memory>, Pass<VisitMeaning>)
+            requires sync { IsSync R.row × IsSync G.row }
+            requires meaning { IsMeaningOf functions.now table.now.meaning }
+            requires ready { IsReady sizes.rows table.now other (length right.now) }
+            requires fits { AreFitting functions.now right.now }
+            requires rows { sizes.rows * length right.now ≤ 2 ^ 24 }
+            requires some { 1 ≤ length right.now }
+            requires some_row { 1 ≤ sizes.rows }
+            requires numbers { next + length right.now ≤ 65 }
+            ensures is_of { IsOf result.1 table.entry.now }
+            ensures answers { IfOk result.0 (Answers functions.entry.now sizes (standing result.1.view) right.entry.now) }
+        { session_runs(rt, alloc, table, functions, sizes, gate, other, right, next) },
+    );
     pass.meet(table, other);
     (Played::joined(one, two), pass)
 }

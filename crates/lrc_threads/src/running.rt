@@ -16,14 +16,14 @@ use lrc_table::Table;
 use std::alloc::Global;
 use std::thread::Threads;
 
-/// Runs at most 64 sessions, one after another, over one table in which each has so many rows. The gate is
-/// told of each reply before it is computed. No thread is started yet.
+/// Runs at most 64 sessions on threads over one table, in which each has so many rows. The gate is told of
+/// each reply before it is computed.
 ///
 /// # Errors
 ///
 /// Want of memory.
 pub fn run_sessions<R: Threads + Sync, G: Gate + Sync>(
-    _rt: &R,
+    rt: &R,
     alloc: Global,
     functions: &Functions,
     sessions: &[Script],
@@ -47,7 +47,7 @@ pub fn run_sessions<R: Threads + Sync, G: Gate + Sync>(
     let meaning = VisitMeaning::new(alloc, functions.plan())?;
     let count = sessions.len() as u32;
     let (table, pass) = Table::new(alloc, meaning, count, sizes.rows, sizes.memo)?;
-    let (played, pass) = session_runs(alloc, &table, functions, sizes, gate, pass, sessions, 1);
+    let (played, pass) = session_runs(rt, alloc, &table, functions, sizes, gate, pass, sessions, 1);
     let played = played?;
     let _rows = pass.published();
     let finals = finals_of(alloc, played.lasts.as_slice())?;

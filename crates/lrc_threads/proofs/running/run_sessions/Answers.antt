@@ -15,7 +15,7 @@ returns-then-is_empty g c = record {
 }
 
 pub session_runs-played-requires-clause-ready : goal.session_runs-played-requires-clause-ready
-session_runs-played-requires-clause-ready g c =
+session_runs-played-requires-clause-ready g c κs within =
     opening-ready c.args.sizes.rows (length c.args.sessions.now) c.in_ok-table.table c.in_ok-table.pass c.in_ok-table.ensures.table.1 c.in_ok-table.ensures.pass.0 c.in_ok-table.ensures.pass.1
 
 pub returns : goal.returns
