@@ -28,3 +28,5 @@ mod sessions;
 mod terms;
 #[cfg(test)]
 mod texts;
+#[cfg(test)]
+mod threads;
