@@ -1,0 +1,4 @@
+pub mod ListLemmas
+pub mod TargetLemmas
+pub mod OrderLemmas
+pub mod CopyLemmas
