@@ -2,3 +2,4 @@ pub mod ListLemmas
 pub mod TargetLemmas
 pub mod OrderLemmas
 pub mod CopyLemmas
+pub mod AgainLemmas

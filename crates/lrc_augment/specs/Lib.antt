@@ -1,3 +1,4 @@
 pub mod Filled
 pub mod Targets
 pub mod Orders
+pub mod Laws

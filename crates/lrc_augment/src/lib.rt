@@ -6,6 +6,7 @@ mod attrs;
 mod copies;
 mod fault;
 mod filled;
+mod laws;
 mod order;
 mod pairs;
 mod symbols;
@@ -13,5 +14,6 @@ mod targets;
 
 pub use fault::OrderLineFault;
 pub use filled::augment;
+pub use laws::filled_twice_is_filled;
 pub use order::RawOrder;
 pub use pairs::given;
