@@ -3,3 +3,4 @@ pub mod TargetLemmas
 pub mod OrderLemmas
 pub mod CopyLemmas
 pub mod AgainLemmas
+pub mod CompleteLemmas
