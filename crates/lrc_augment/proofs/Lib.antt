@@ -4,3 +4,4 @@ pub mod OrderLemmas
 pub mod CopyLemmas
 pub mod AgainLemmas
 pub mod CompleteLemmas
+pub mod ThereLemmas

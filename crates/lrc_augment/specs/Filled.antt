@@ -1,7 +1,8 @@
 -- The filled grammar: behind a production's own items stand copies, one for each attribute that is to be defined, has no
 -- item, and whose value another attribute of its name and kind can give. Inherited attributes are copied down from the
 -- left side, and synthesised ones up from a symbol, where only one has such an attribute. Where two sorts share a name
--- the first counts; a sort that is unknown has no attributes.
+-- the first counts; a sort that is unknown has no attributes. Source: the copy rules of attribute grammar systems; here
+-- nothing is copied up where two symbols could give the value.
 use Rattle.std.specs.Prelude.{ℕ, Bool, true, false, not, ◌&&◌, List, [], ◌∷◌, ◌++◌, map, flat_map, filter, Option, Some, None, bytes_eq, cond}
 use Rattle.std.specs.List.{list_any}
 use Rattle.lrc_base.specs.declared.raw.RawKind.{RawKind}

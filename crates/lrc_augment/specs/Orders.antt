@@ -1,6 +1,6 @@
 -- What order lines name: each a sort and two of its attributes, by their numbers. Where one is unknown, the first that
 -- is: in the first such line its sort, or else its first attribute, or else its second. Where two share a name the
--- first counts.
+-- first counts. Source: the dependencies that are added to arrange a grammar orderly (Kastens 1980).
 use Rattle.std.specs.Prelude.{◌≡◌, ℕ, List, [], ◌∷◌, position, Option, Some, None, Result, Ok, Err, MatchResult, bytes_eq}
 use Rattle.lrc_base.specs.declared.grammar.Attr.{Attr}
 use Rattle.lrc_base.specs.declared.grammar.Sort.{Sort}

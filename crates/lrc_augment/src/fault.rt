@@ -5,7 +5,7 @@ use thiserror::Error;
 #[derive(Debug, Clone, Copy, PartialEq, Eq, Error)]
 pub enum OrderLineFault {
     /// No sort has this name, or its sort has no attribute of this name.
-    #[error("unknown in order: {0:?}")]
+    #[error("a name of an order line is unknown")]
     Unknown(NameText),
     /// Memory ran out.
     #[error("out of memory")]

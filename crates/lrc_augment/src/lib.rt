@@ -14,6 +14,6 @@ mod targets;
 
 pub use fault::OrderLineFault;
 pub use filled::augment;
-pub use laws::{complete_grammar_stays, filled_twice_is_filled};
+pub use laws::{complete_grammar_stays, filled_twice_is_filled, given_pairs_are_there};
 pub use order::RawOrder;
 pub use pairs::given;
