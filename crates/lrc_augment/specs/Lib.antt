@@ -1,0 +1,4 @@
+pub mod Filled
+pub mod Targets
+pub mod Orders
+pub mod Laws
